@@ -9,7 +9,7 @@ use lib.Seq.{sets}
 use lib.Signed.{ltZ, leZ}
 use Rattle.model.specs.Limits.{mostTerms, mostWeights}
 use Rattle.model.specs.Logic.{Lit, neg, isLit, Term, term, total, weightedSum}
-use Rattle.model.specs.Words.{word}
+use Rattle.model.specs.Words.{word, litOf}
 use Rattle.model.specs.Replies.{Reply, Unsat, Equality, NoRoom, BadConstraint}
 
 -- "Constraints: upper, lower or equality, bound -2,147,483,648 to 2,147,483,647"
@@ -19,6 +19,12 @@ pub data Order : Type 0 where
 pub data Bound : Type 0 where
   ordered : Order → ℤ → Bound
   equality : ℤ → Bound
+
+-- terms may come as two lists side by side, weights and literals' words
+unfoldable pub termsOf : List ℕ → List ℤ → List Term
+termsOf [] ls = []
+termsOf (w ∷ ws) [] = []
+termsOf (w ∷ ws) (l ∷ ls) = term w (litOf l) ∷ termsOf ws ls
 
 -- the weighted sum is at most an upper bound, at least a lower one
 unfoldable pub meets : (ℕ → Bool) → Order → ℤ → List Term → Bool
@@ -116,3 +122,8 @@ satisfiable w (ordered o b) l ts ws ls =
 
 unfoldable pub reified : Way → Bound → Lit → List Term → List ℕ → List ℤ → Reified
 reified w k l ts ws ls = cond (goodConstraint l ts) (satisfiable w k l ts ws ls) (reifiedTo (refused BadConstraint) ws ls)
+
+-- the same over two lists; two lists of different lengths are no terms, which is 14 too
+unfoldable pub reifiedLists : Way → Bound → Lit → List ℕ → List ℤ → List ℕ → List ℤ → Reified
+reifiedLists w k l tw tl ws ls =
+    cond (eqb (length tw) (length tl)) (reified w k l (termsOf tw tl) ws ls) (reifiedTo (refused BadConstraint) ws ls)
