@@ -10,7 +10,7 @@ use lib.Signed.{ltZ, leZ}
 use Rattle.model.specs.Limits.{mostTerms, mostWeights}
 use Rattle.model.specs.Logic.{Lit, neg, isLit, Term, term, total, weightedSum}
 use Rattle.model.specs.Words.{word, litOf}
-use Rattle.model.specs.Replies.{Reply, Unsat, Equality, NoRoom, BadConstraint}
+use Rattle.model.specs.Replies.{Reply, number, Accepted, Unsat, Equality, NoRoom, BadConstraint}
 
 -- "Constraints: upper, lower or equality, bound -2,147,483,648 to 2,147,483,647"
 pub data Order : Type 0 where
@@ -25,6 +25,11 @@ unfoldable pub termsOf : List ℕ → List ℤ → List Term
 termsOf [] ls = []
 termsOf (w ∷ ws) [] = []
 termsOf (w ∷ ws) (l ∷ ls) = term w (litOf l) ∷ termsOf ws ls
+
+-- "cardinality: all 1"
+unfoldable pub ones : List ℤ → List Term
+ones [] = []
+ones (l ∷ ls) = term 1 (litOf l) ∷ ones ls
 
 -- the weighted sum is at most an upper bound, at least a lower one
 unfoldable pub meets : (ℕ → Bool) → Order → ℤ → List Term → Bool
@@ -90,6 +95,11 @@ impossible lower b s = ltZ (pos s) b
 pub data Answer : Type 0 where
   accepted : Order → ℕ → ℕ → Answer
   refused : Reply → Answer
+
+-- its number
+unfoldable pub numberOf : Answer → ℕ
+numberOf (accepted o n b) = number Accepted
+numberOf (refused r) = number r
 
 -- the answer beside the two lent lists after the call
 pub record Reified : Type 0 where
