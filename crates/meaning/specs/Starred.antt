@@ -19,20 +19,20 @@ AllAsSaid [] = Unit {0}
 AllAsSaid (c ∷ cs) = (c .given ≡ c .said) × AllAsSaid cs
 
 -- literals 1, 2, 3 of weights 1, 2, 3, reified by literal 4 into two lists of four places
-weights123 : List Term
+abbrev weights123 : List Term
 weights123 = term 1 (pL 1) ∷ term 2 (pL 2) ∷ term 3 (pL 3) ∷ []
 
-reifying : Way → Order → ℕ → Reified
+abbrev reifying : Way → Order → ℕ → Reified
 reifying w o b = reified w (ordered o (pos b)) (pL 4) weights123 (0 ∷ 0 ∷ 0 ∷ 0 ∷ []) (pos 0 ∷ pos 0 ∷ pos 0 ∷ pos 0 ∷ [])
 
 -- the four terms and the bound that are made
-making : Order → ℕ → List ℕ → List ℤ → Reified
+abbrev making : Order → ℕ → List ℕ → List ℤ → Reified
 making o b ws ls = reifiedTo (accepted o 4 b) ws ls
 
-case : Reified → Reified → Case
+abbrev case : Reified → Reified → Case
 case g s = record { A = Reified; given = g; said = s }
 
-pub starred : List Case
+unfoldable pub starred : List Case
 starred =
     -- "Weights 1, 2, 3, upper 3, lit 4: weight 6, bound 9"
     case (reifying litImplies upper 3) (making upper 9 (1 ∷ 2 ∷ 3 ∷ 6 ∷ []) (pos 1 ∷ pos 2 ∷ pos 3 ∷ pos 4 ∷ []))

@@ -1,11 +1,20 @@
 -- Sides of implications and made constraints under a choice of the variables. Assumes nothing: these are definitions.
-use mathlib.Core.Bool.{Bool, not, _||_}
-use mathlib.Core.List.{List}
+use mathlib.Core.Bool.{Bool, true, not, _&&_, _||_}
+use mathlib.Core.List.{List, [], _∷_}
 use Prim.Native.Nat.{ℕ}
 use lib.IntN.{pos}
-use Rattle.model.specs.Logic.{Lit, oneTrue, allTrue}
+use Rattle.model.specs.Logic.{Lit, isLit, oneTrue, allTrue}
 use Rattle.model.specs.Implications.{Side, cube, clause}
 use Rattle.model.specs.Reifications.{meets, Way, litImplies, impliesLit, Linear}
+
+-- each literal is in range
+unfoldable pub areLits : List Lit → Bool
+areLits [] = true
+areLits (l ∷ ls) = isLit l && areLits ls
+
+unfoldable pub areClauses : List (List Lit) → Bool
+areClauses [] = true
+areClauses (c ∷ cs) = areLits c && areClauses cs
 
 -- x implies y
 unfoldable pub implies : Bool → Bool → Bool
