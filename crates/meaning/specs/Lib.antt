@@ -1,0 +1,3 @@
+-- What the theorems' statements need beside the model: sides and constraints under a choice, and the table of starred cases.
+pub mod Truth
+pub mod Starred

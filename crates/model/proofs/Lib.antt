@@ -1,0 +1,2 @@
+-- Laws of the definitions that the crates of code lean on.
+pub mod Buffer
