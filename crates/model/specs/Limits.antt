@@ -10,6 +10,10 @@ greatest = 536870911
 unfoldable pub inRange : ℕ → Bool
 inRange n = leb 1 n && leb n greatest
 
+-- "Output bits form an array of 48 connections"
+abbrev pub mostOutputs : ℕ
+mostOutputs = 48
+
 -- "over 128 terms"
 abbrev pub mostTerms : ℕ
 mostTerms = 128

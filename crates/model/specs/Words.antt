@@ -76,6 +76,18 @@ unfoldable pub layAll : List (List Lit) → Buffer → Buffer
 layAll [] b = b
 layAll (c ∷ cs) b = layAll cs (lay (clauseWords c) b)
 
+-- a buffer beside the number of clauses that were laid into it; clauses go there as one batch (a gate's), or each as a batch of its
+-- own (a comparator's)
+pub record Sink : Type 0 where
+  pub buffer : Buffer
+  pub clauses : ℕ
+
+unfoldable pub putBatch : List (List Lit) → Sink → Sink
+putBatch cs s = record { buffer = lay (flat cs) (s .buffer); clauses = raised (s .clauses) (length cs) }
+
+unfoldable pub putEach : List (List Lit) → Sink → Sink
+putEach cs s = record { buffer = layAll cs (s .buffer); clauses = raised (s .clauses) (length cs) }
+
 -- "Evaluator, true exactly when each clause has a true literal", read word by word: `seen` where the clause being read has
 -- one already. Words after the last 0 are no clause
 unfoldable pub wordsTrue : (ℕ → Bool) → Bool → List ℤ → Bool
