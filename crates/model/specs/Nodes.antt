@@ -6,12 +6,21 @@ use Prim.Native.Nat.{ℕ, zero, suc, _+_, _*_, _/_, _%_, _^_}
 use lib.Dec.{eqb, ltb}
 use lib.ListN.{length, getD, set}
 use lib.Seq.{sets}
+use Rattle.model.specs.Limits.{inRange}
 use Rattle.model.specs.Logic.{Lit, pL, nL}
 use Rattle.model.specs.Signs.{Kind, half, full, Bit, sum, carry, Dir, iff, onlyif}
 
--- "The variable source holds the next number": the number after it, which in a 32-bit word stays at the word's top
+-- "The variable source holds the next number". Counting on: the number after a number, which in a 32-bit word stays at its top
 unfoldable pub bump : ℕ → ℕ
 bump n = cond (ltb n 0xffff_ffff) (n + 1) n
+
+-- drawing "returns the number and raises its next field": the number, 0 where the source is at 0 or spent (above 536,870,911), and the
+-- next field then
+unfoldable pub drawnNumber : ℕ → ℕ
+drawnNumber next = cond (inRange next) next 0
+
+unfoldable pub drawnNext : ℕ → ℕ
+drawnNext next = cond (inRange next) (next + 1) next
 
 -- "4n+2 sum of node n, 4n+3 carry of node n"
 unfoldable pub sumWord : ℕ → ℕ
