@@ -9,5 +9,7 @@ pub mod Nodes
 pub mod Buckets
 pub mod Emit
 pub mod Compare
+pub mod Machine
+pub mod Damage
 pub mod Implications
 pub mod Reifications

@@ -10,11 +10,22 @@ greatest = 536870911
 unfoldable pub inRange : ℕ → Bool
 inRange n = leb 1 n && leb n greatest
 
+-- "Weight: 1 to 4,294,967,295; total of all weights at most 4,294,967,295"
+abbrev pub mostTotal : ℕ
+mostTotal = 4294967295
+
+-- "At most 4,096 nodes", "At most 1,024" bounds
+abbrev pub mostNodes : ℕ
+mostNodes = 4096
+
+abbrev pub mostBounds : ℕ
+mostBounds = 1024
+
 -- "Output bits form an array of 48 connections"
 abbrev pub mostOutputs : ℕ
 mostOutputs = 48
 
--- "over 128 terms"
+-- "At most 128 pending terms", "over 128 terms"
 abbrev pub mostTerms : ℕ
 mostTerms = 128
 
