@@ -1,5 +1,5 @@
 -- Document 01 as definitions, in its order: numbers and their limits, literals and their truth, the buffer's words and the
--- evaluator, the replies, the sign table, the node table, building, emitting, comparing, implications, reifications. No code and no proof stands here; 01's own words stand in quotes.
+-- evaluator, the replies, the sign table, the node table, building, emitting, comparing, the machine, its damage, bounds, the calls, implications, reifications. No code and no proof stands here; 01's own words stand in quotes.
 pub mod Limits
 pub mod Logic
 pub mod Words
@@ -11,5 +11,7 @@ pub mod Emit
 pub mod Compare
 pub mod Machine
 pub mod Damage
+pub mod Bounds
+pub mod Calls
 pub mod Implications
 pub mod Reifications
