@@ -16,6 +16,7 @@ use mir.Val.{SFits, toZ, ofZ}
 use Rattle.literal.proofs.Signed.{back}
 use Rattle.clauses.specs.Parts.{turnedWord, turned}
 use Rattle.model.proofs.Buffer.{layAll-fill, layAll-fits}
+use Rattle.model.proofs.Literals.{both, litOf-word}
 use Rattle.model.specs.Limits.{greatest, inRange, mostFill}
 use Rattle.model.specs.Logic.{Lit, neg, variable, isLit}
 use Rattle.model.specs.Words.{word, litOf, isLiteral, negated, clauseWords, Buffer, buffer, raised, lay, layAll}
@@ -24,30 +25,13 @@ use Rattle.model.specs.Replies as replies
 use Rattle.implications.specs.declared.Implied.the-variants.{Accepted, BadTerm, NoRoom, Damaged}
 use Rattle.implications.specs.Read.{replyOf, fillAfter, resultOf, areLiterals}
 
--- both parts of a true conjunction
-both : (a b : Bool) → a && b ≡ true → (a ≡ true) × (b ≡ true)
-both true b e = (refl, e)
-both false b e = (e, absurd (let z : _≡_ {A = ℕ} 0 1 = cc in omega arith))
-
--- a literal in range is its word
-kept : (n : ℕ) → inRange n ≡ true → n % 0x8000_0000 ≡ n
-unfolding inRange
-kept n e =
-    let h : n ≤ greatest = leb-true n greatest (both (leb 1 n) (leb n greatest) e .1) in
-    omega arith
-
-word-of : (z : ℤ) → isLiteral z ≡ true → z ≡ word (litOf z)
-unfolding word litOf isLiteral isLit variable
-word-of (pos n) e = sym (ap pos (kept n e))
-word-of (negsuc n) e = sym (ap (λ (k : ℕ). negℤ (pos k)) (kept (suc n) e))
-
 -- the words of a clause of two parts
 plain-words : (b : List ℤ) → areLiterals b ≡ true → turned false b ≡ map word (map litOf b)
 unfolding turned turnedWord areLiterals
 plain-words [] e = refl
 plain-words (z ∷ b) e =
     let p = both (isLiteral z) (areLiterals b) e in
-    ap₂ _∷_ (word-of z (p .0)) (plain-words b (p .1))
+    ap₂ _∷_ (sym (litOf-word z (p .0))) (plain-words b (p .1))
 
 negated-words : (a : List ℤ) → turned true a ≡ map word (map neg (map litOf a))
 unfolding turned turnedWord negated

@@ -16,7 +16,7 @@ use Rattle.model.specs.Replies.{Reply, number, Accepted, BadTerm, NoRoom, Damag
 use Rattle.model.specs.Implications.{Side, cube, clause, apart, lefts, rights, joined, row, table, implication, implicationWords, firstBad, Implied, replied, implied}
 use Rattle.model.proofs.Buffer.{sets-before, sets-after, sets-stand}
 use Rattle.meaning.specs.Truth.{areLits, areClauses, implies, sideTrue}
-use Rattle.meaning.proofs.Bools.{both, by-test}
+use Rattle.model.proofs.Literals.{both, by-test}
 use Rattle.meaning.proofs.Words.{words-alone}
 
 not-and : (a b : Bool) → not a || not b ≡ not (a && b)

@@ -17,8 +17,7 @@ use Rattle.model.specs.Replies.{Reply, Unsat, Equality, NoRoom, BadConstraint}
 use Rattle.model.specs.Reifications.{Order, upper, lower, Bound, ordered, equality, termsOf, meets, Way, litImplies, impliesLit, Linear, negateTerm, unit, addedSum, made, goodTerms, goodConstraint, impossible, accepted, refused, Reified, reifiedTo, weightOf, wordOf, written, satisfiable, reified}
 use Rattle.model.proofs.Buffer.{sets-after, sets-stand}
 use Rattle.meaning.specs.Truth.{areLits, implies, holds, saying}
-use Rattle.meaning.proofs.Bools.{both, by-test}
-use Rattle.meaning.proofs.Words.{word-back}
+use Rattle.model.proofs.Literals.{both, by-test, word-back}
 use Rattle.meaning.proofs.Implications.{neg-true, neg-lit}
 
 -- the arithmetic of the four rows: x the literal, v the sum of the true weights, t whether it meets the bound n

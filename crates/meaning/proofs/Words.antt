@@ -1,39 +1,15 @@
--- A literal in range is its word, read back, and the evaluator finds the words of clauses true exactly where the clauses are.
+-- The evaluator finds the words of clauses true exactly where the clauses are.
 -- Assumes nothing.
 use mathlib.Core.Path.{_≡_, refl, sym, ap, _∙_}
 use mathlib.Core.Bool.{Bool, true, false, _&&_, _||_, and-true, and-assoc, or-assoc, or-false}
 use mathlib.Core.List.{List, [], _∷_, _++_, append-assoc, append-nil}
-use Prim.Native.Nat.{ℕ, zero, suc, _%_, _≤_}
+use Prim.Native.Nat.{ℕ, zero, suc}
 use native.Mathlib.Omega.{arith}
-use borrow.Author.Tests.{leb-true}
-use lib.Dec.{leb}
-use lib.IntN.{ℤ, pos, negsuc, negℤ}
-use Rattle.model.specs.Limits.{greatest, inRange}
+use lib.IntN.{ℤ, pos, negℤ}
 use Rattle.model.specs.Logic.{Lit, pL, nL, variable, isLit, litTrue, oneTrue, clausesTrue}
-use Rattle.model.specs.Words.{word, litOf, isLiteral, clauseWords, flat, wordsTrue}
+use Rattle.model.specs.Words.{word, clauseWords, flat, wordsTrue}
+use Rattle.model.proofs.Literals.{both, range, kept}
 use Rattle.meaning.specs.Truth.{areLits, areClauses}
-use Rattle.meaning.proofs.Bools.{both}
-
-range : (n : ℕ) → inRange n ≡ true → (1 ≤ n) × (n ≤ greatest)
-unfolding inRange
-range n e =
-    let p = both (leb 1 n) (leb n greatest) e in
-    (leb-true 1 n (p .0), leb-true n greatest (p .1))
-
--- a variable in range keeps its 31 bits
-kept : (n : ℕ) → inRange n ≡ true → n % 0x8000_0000 ≡ n
-kept n e = omega (arith, range n e)
-
-pub word-back : (l : Lit) → isLit l ≡ true → litOf (word l) ≡ l
-unfolding word litOf isLit variable
-word-back (pL n) e = ap pL (kept n e)
-word-back (nL zero) e = absurd (omega (arith, range 0 e))
-word-back (nL (suc n)) e = ap (λ (k : ℕ). litOf (negℤ (pos k))) (kept (suc n) e)
-
-pub litOf-word : (z : ℤ) → isLiteral z ≡ true → word (litOf z) ≡ z
-unfolding word litOf isLiteral isLit variable
-litOf-word (pos n) e = ap pos (kept n e)
-litOf-word (negsuc n) e = ap (λ (k : ℕ). negℤ (pos k)) (kept (suc n) e)
 
 module _ (α : ℕ → Bool) where
   -- a literal's word is read as the literal
