@@ -16,7 +16,7 @@ use Rattle.model.specs.Nodes.{var}
 use Rattle.model.specs.Buckets.{Pending, Extended, ifPending, present, extend, positionsAfter, nodesAfter}
 use Rattle.model.specs.Emit.{Em, reserveAll}
 use Rattle.model.specs.Machine.{Party, Shared, Machine, pending, totalOf, emptyParty, addAll, weightsOf, wordsOf, Record, recordAt, markedIn, find}
-use Rattle.model.specs.Bounds.{Range, upValues, downValues, valuesFrom, missing, Work, plus1, stage}
+use Rattle.model.specs.Bounds.{Range, upValues, downValues, valuesFrom, missing, Work, plus1, follow, Clauses, stage}
 use Rattle.model.specs.Damage.{partyDamaged, boundsDamaged, tablesDamaged, allDamaged}
 
 -- ---- start
@@ -132,14 +132,14 @@ unfoldable pub recordsAfter : List ℕ → List ℕ → Machine → ℕ
 recordsAfter ups downs m = length (known m) + missing (known m) (ups ++ downs)
 
 -- all that is emitted and compared, on the machine after its build
-unfoldable pub work : List ℕ → List ℕ → Machine → Work
+unfoldable pub work : List ℕ → List ℕ → Machine → Work Clauses
 work ups downs b =
     let os : List ℕ = present (b .party .outputs) in
-    let before : Work = record { em = record { table = b .nodes; next = b .next; sink = [] }; bounds = b .bounds; count = b .party .bounds } in
-    stage onlyif (b .party .nodes) os downs (stage iff (b .party .nodes) os ups before)
+    let before : Work Clauses = record { em = record { table = b .nodes; next = b .next; sink = [] }; bounds = b .bounds; count = b .party .bounds } in
+    stage plus1 follow follow onlyif (b .party .nodes) os downs (stage plus1 follow follow iff (b .party .nodes) os ups before)
 
 -- the machine after its work: the clauses stand in the buffer from the fill on
-unfoldable pub worked : Work → Machine → Machine
+unfoldable pub worked : Work Clauses → Machine → Machine
 worked w b =
     let p : Party = b .party in record {
       party = record {
@@ -164,7 +164,7 @@ worked w b =
 -- where something is asked: "7 to 11 ascending"
 unfoldable pub encodeValues : List ℕ → List ℕ → Machine → Replied
 encodeValues ups downs m =
-    let w : Work = work ups downs (built m) in
+    let w : Work Clauses = work ups downs (built m) in
     cond (ltb (min mostBounds (length (m .bounds) / 3)) (recordsAfter ups downs m)) (replied TooManyBounds m)
     (cond (tooWide m) (replied TooWide m)
     (cond (noNodes m) (replied NoNodes m)
@@ -197,14 +197,14 @@ unfoldable pub encodeBoth : Range → Machine → Replied
 encodeBoth r m = encode r r m
 
 -- ---- reserve: "build; by rising bucket, .."
-unfoldable pub reserving : Machine → Em (List (List Lit))
+unfoldable pub reserving : Machine → Em Clauses
 reserving b = reserveAll plus1 (b .party .nodes) (present (b .party .outputs)) (record { table = b .nodes; next = b .next; sink = [] })
 
 unfoldable pub reserveCall : Machine → Replied
 reserveCall m =
     let b : Machine = built m in
-    let e : Em (List (List Lit)) = reserving b in
-    let w : Work = record { em = e; bounds = b .bounds; count = b .party .bounds } in
+    let e : Em Clauses = reserving b in
+    let w : Work Clauses = record { em = e; bounds = b .bounds; count = b .party .bounds } in
     cond (allDamaged m) (replied Damaged m)
     (cond (tooWide m) (replied TooWide m)
     (cond (noNodes m) (replied NoNodes m)
