@@ -17,7 +17,7 @@ use Rattle.model.specs.Reifications.{termsOf, goodTerms, goodConstraint}
 use Rattle.reifications.specs.declared.plan.Checked.the-variants.{Sum, Bad}
 use Rattle.reifications.specs.Plans.{goodLists, checkedOf}
 
-pub length-terms : (ws : List ℕ) (ls : List ℤ) → length ls ≡ length ws → length (termsOf ws ls) ≡ length ws
+length-terms : (ws : List ℕ) (ls : List ℤ) → length ls ≡ length ws → length (termsOf ws ls) ≡ length ws
 unfolding termsOf
 length-terms [] ls e = refl
 length-terms (w ∷ ws) [] e = absurd (omega (arith, e))
@@ -27,7 +27,7 @@ length-terms (w ∷ ws) (l ∷ ls) e = ap suc (length-terms ws ls (omega arith))
 abbrev pub left : List ℕ → List ℤ → ℕ → List Term
 left ws ls i = termsOf (drop i ws) (drop i ls)
 
-pub left-none : (ws : List ℕ) (ls : List ℤ) (i : ℕ) → length ws ≤ i → left ws ls i ≡ []
+left-none : (ws : List ℕ) (ls : List ℤ) (i : ℕ) → length ws ≤ i → left ws ls i ≡ []
 unfolding termsOf
 left-none ws ls i h = ap (λ (l : List ℕ). termsOf l (drop i ls)) (drop-of-length-le ws h)
 

@@ -25,7 +25,7 @@ module _ {ℓ} {A : Type ℓ} (f : A → A) (source : List A) (i : ℕ) (to c : 
   copy-end h inv = sym (ap (λ (l : List A). sets to i (map f l)) (drop-of-length-le source h)) ∙ inv
 
 -- one element more is one store more
-pub sets-snoc {ℓ} : {A : Type ℓ} (vs : List A) (l : List A) (i : ℕ) (a : A) → sets l i (vs ++ (a ∷ [])) ≡ set (sets l i vs) (i + length vs) a
+sets-snoc {ℓ} : {A : Type ℓ} (vs : List A) (l : List A) (i : ℕ) (a : A) → sets l i (vs ++ (a ∷ [])) ≡ set (sets l i vs) (i + length vs) a
 sets-snoc [] l i a = ap (λ (k : ℕ). set l k a) (omega arith)
 sets-snoc (v ∷ vs) l i a =
     let e : suc i + length vs ≡ i + suc (length vs) = omega arith in

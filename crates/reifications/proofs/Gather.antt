@@ -1,12 +1,12 @@
 -- Terms that come otherwise than as two lists: literals of weight 1, and a fold that gathers lent terms. Assumes nothing.
-use mathlib.Core.Path.{_≡_, refl, sym, ap, ap₂, _∙_}
+use mathlib.Core.Path.{_≡_, refl, sym, ap, _∙_}
 use mathlib.Core.Bool.{Bool, true, false, cond, _&&_}
 use mathlib.Core.List.{List, [], _∷_, _++_, map, map-append, append-nil}
 use Prim.Native.Nat.{ℕ, zero, suc, _+_, _≤_, _<_}
 use native.Mathlib.Numerals.{add-one}
 use native.Mathlib.Omega.{arith}
 use lib.Dec.{leb, ltb}
-use lib.IntN.{ℤ, pos}
+use lib.IntN.{ℤ}
 use lib.ListN.{length, take, set, replicate, length-map, length-set, length-append}
 use lib.Seq.{append-snoc, take-suc-set}
 use borrow.Author.Tests.{lt-ltb, le-ltb, le-leb, lt-leb, ltb-true, ltb-false, eq-eqb}
@@ -25,7 +25,7 @@ module _ (w : Way) (k : Bound) (l : logic.Lit) (ow : List ℕ) (ol : List ℤ) w
   bad = reifiedTo (refused BadConstraint) ow ol
 
   -- more than 128 terms
-  pub too-long : (ts : List logic.Term) → 128 < length ts → bad ≡ reified w k l ts ow ol
+  too-long : (ts : List logic.Term) → 128 < length ts → bad ≡ reified w k l ts ow ol
   unfolding reified goodConstraint
   too-long ts h = rw (lt-leb (length ts) 128 h) (go (logic.isLit l))
     where
@@ -34,7 +34,7 @@ module _ (w : Way) (k : Bound) (l : logic.Lit) (ow : List ℕ) (ol : List ℤ) w
       go false = refl
 
   -- two lists of one length
-  pub lists-terms : (ws : List ℕ) (ls : List ℤ) → length ws ≡ length ls → reifiedLists w k l ws ls ow ol ≡ reified w k l (termsOf ws ls) ow ol
+  lists-terms : (ws : List ℕ) (ls : List ℤ) → length ws ≡ length ls → reifiedLists w k l ws ls ow ol ≡ reified w k l (termsOf ws ls) ow ol
   unfolding reifiedLists
   lists-terms ws ls e = rw (eq-eqb (length ws) (length ls) e)
 

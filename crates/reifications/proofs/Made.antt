@@ -2,7 +2,7 @@
 use mathlib.Core.Path.{_≡_, refl, sym, ap, ap₂, _∙_}
 use mathlib.Core.Bool.{Bool, true, false, cond, _&&_, and-eq-true-iff}
 use mathlib.Core.List.{List, [], _∷_, _++_, map, map-append}
-use Prim.Native.Nat.{ℕ, zero, suc, _+_, _*_, _-_, _≤_, _<_, _%_}
+use Prim.Native.Nat.{ℕ, zero, suc, _+_, _*_, _-_, _≤_, _<_}
 use native.Mathlib.Nat.{mod-eq-of-lt}
 use native.Mathlib.Omega.{arith}
 use lib.Dec.{leb, ltb, eqb, leb·zero}
@@ -10,15 +10,15 @@ use lib.IntN.{ℤ, pos, negsuc, negℤ}
 use lib.ListN.{length, length-map}
 use lib.Seq.{sets}
 use lib.Signed.{leZ}
-use borrow.Author.Tests.{le-ltb, lt-leb, leb-true, leb-false, ltb-false, eqb-true, ne-eqb}
+use borrow.Author.Tests.{le-ltb, lt-leb, leb-true, leb-false, ltb-false, ne-eqb}
 use Rattle.model.specs.Limits.{greatest, inRange}
 use Rattle.model.specs.Logic.{Lit, neg, variable, isLit, Term, term, total}
 use Rattle.model.specs.Words.{word, litOf, isLiteral, negated}
 use Rattle.model.specs.Replies as replies
-use Rattle.model.specs.Reifications.{Order, upper, lower, Bound, ordered, equality, Way, litImplies, impliesLit, termsOf, Linear, linear, negateTerm, unit, addedSum, made, goodTerms, goodConstraint, impossible, accepted, refused, Reified, reifiedTo, weightOf, wordOf, written, satisfiable, reified, reifiedLists}
+use Rattle.model.specs.Reifications.{Order, upper, lower, Bound, ordered, equality, Way, litImplies, impliesLit, termsOf, linear, negateTerm, unit, addedSum, made, goodTerms, goodConstraint, impossible, accepted, refused, Reified, reifiedTo, weightOf, wordOf, written, satisfiable, reified, reifiedLists}
 use Rattle.reifications.specs.declared.Order.the-variants as order
 use Rattle.reifications.specs.declared.plan.Plan.{Plan}
-use Rattle.reifications.specs.declared.plan.Plan.the-variants.{Bad, Equality, Impossible, Nothing, Unit, Terms}
+use Rattle.reifications.specs.declared.plan.Plan.the-variants.{Bad, Unit, Terms}
 use Rattle.reifications.specs.Plans.{goodLists, isNegative, partOf, upperPlan, lowerPlan, planOf, plannedOf, flip, added, writtenLists, carriedOut}
 use Rattle.reifications.specs.Read.{orderOf}
 use Rattle.reifications.proofs.Checks.{good-parts}
@@ -28,7 +28,7 @@ in-range : (n : ℕ) → inRange n ≡ true → n < 0x8000_0000
 unfolding inRange
 in-range n h = omega (arith, leb-true n greatest (and-eq-true-iff (leb 1 n) _ .0 h .1))
 
-pub word-back : (z : ℤ) → isLiteral z ≡ true → word (litOf z) ≡ z
+word-back : (z : ℤ) → isLiteral z ≡ true → word (litOf z) ≡ z
 unfolding isLiteral isLit litOf variable word
 word-back (pos n) h = ap pos (mod-eq-of-lt (in-range n h))
 word-back (negsuc n) h = ap (λ (m : ℕ). negℤ (pos m)) (mod-eq-of-lt (in-range (suc n) h))
@@ -174,13 +174,13 @@ carried : (w : Way) (k : Bound) (z : ℤ) (tw : List ℕ) (tl : List ℤ) (ow : 
 unfolding plannedOf goodLists reifiedLists reified carriedOut
 carried w k z tw tl ow ol = go (eqb (length tw) (length tl)) (goodConstraint (litOf z) (termsOf tw tl)) refl
   where
-    done : (e g : Bool) → e && g ≡ goodLists z tw tl → Type 0
-    done e g h =
+    Done : Bool → Bool → Type 0
+    Done e g =
         carriedOut (cond (e && g) (planOf w k (total (termsOf tw tl))) Bad) z tw tl ow ol
         ≡ cond e (cond g (satisfiable w k (litOf z) (termsOf tw tl) ow ol) (reifiedTo (refused replies.BadConstraint) ow ol))
         (reifiedTo (refused replies.BadConstraint) ow ol)
 
-    go : (e g : Bool) → (h : e && g ≡ goodLists z tw tl) → done e g h
+    go : (e g : Bool) → e && g ≡ goodLists z tw tl → Done e g
     go true true h = let p = good-parts z tw tl (sym h) in row z (p .fine) ow ol tw tl (p .same) (p .terms) w k
     go true false h = refl
     go false g h = refl

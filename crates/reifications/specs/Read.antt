@@ -1,6 +1,4 @@
 -- The declared types, read as the model's. Assumes nothing: these are definitions.
-use Prim.Native.Nat.{ℕ}
-use lib.IntN.{ℤ}
 use Rattle.literal.specs.declared.Term.{Term}
 use Rattle.model.specs.Logic as logic
 use Rattle.model.specs.Words.{litOf}

@@ -1,10 +1,9 @@
 -- `planned` checks a constraint, then reads the table. Assumes nothing.
 use mathlib.Core.Path.{_≡_, sym, ap, _∙_}
-use native.Mathlib.Omega.{arith}
 use mir.Syntax.{w32}
 use mir.Val.{SFits}
 use Rattle.literal.proofs.Signed.{back}
-use Rattle.reifications.specs.declared.plan.Checked.the-variants.{Sum, Bad}
+use Rattle.reifications.specs.declared.plan.Checked.the-variants.{Sum}
 use Rattle.reifications.specs.Plans.{checkedOf, isNegative, partOf}
 use Rattle.reifications.proofs.Checks.{told-sum}
 use Rattle.reifications.proofs.Rows.{plan-bad, plan-equality, plan-never, plan-up, plan-low}

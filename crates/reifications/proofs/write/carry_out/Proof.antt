@@ -1,12 +1,9 @@
 -- `carry_out` writes what a plan says. Assumes nothing.
-use mathlib.Core.Path.{_≡_, sym, ap, ap₂, _∙_}
-use lib.IntN.{ℤ}
+use mathlib.Core.Path.{ap, _∙_}
 use mir.Syntax.{w32}
 use mir.Val.{SFits}
 use Rattle.literal.proofs.Signed.{back}
-use Rattle.model.specs.Reifications as model
-use Rattle.reifications.specs.declared.plan.Plan.{Plan}
-use Rattle.reifications.specs.Plans.{carriedOut, flip, writtenLists}
+use Rattle.reifications.specs.Plans.{carriedOut, flip}
 use Rattle.reifications.specs.Read.{answerOf, orderOf}
 use borrow.Author.Needs.{needs}
 use Rattle.reifications.proofs.Writing.{unit-out, terms-out}

@@ -1,7 +1,5 @@
 -- `flipped` gives a word as it is, or that of the negated literal. Assumes nothing.
 use mathlib.Core.Path.{ap, _∙_}
-use mathlib.Core.Bool.{Bool}
-use lib.IntN.{ℤ}
 use Rattle.literal.proofs.Signed.{back}
 use Rattle.model.specs.Words.{negated}
 use Rattle.reifications.specs.Plans.{flip}
@@ -15,7 +13,6 @@ negated-requires c κs = search needs
 returns : tie.Need-returns
 unfolding flip
 returns c =
-    let s = c .before .before .before .args in
     back (record { sfits = c .struct-told .given .0 .1 }) ∙ c .before .negated .ensures ∙ ap negated (back (c .before .before .before .fits .word))
     ∙ rw (c .before .before .if1 .taken)
 
