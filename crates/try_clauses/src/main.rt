@@ -51,8 +51,9 @@ fn tell_part(nums: &[i64], n: usize, i: usize) -> usize {
     let negate = try_io::at(nums, n, try_io::later(i, 2)) != 0;
     let place = try_io::later(i, 4);
     let mut part = [0i32; 64];
-    try_io::words_from(nums, n, place, &mut part);
-    let k = try_io::words_within(try_io::at(nums, n, try_io::later(i, 3)), &part);
+    let size = try_io::at(nums, n, try_io::later(i, 3));
+    try_io::words_from(nums, n, place, try_io::as_usize(size), &mut part);
+    let k = try_io::words_within(size, &part);
     let mut room = [MARK; 64];
     let len = try_io::words_within(try_io::at(nums, n, i), &room);
     show_part(&mut room[..len], fill, &part[..k], negate);
@@ -71,14 +72,16 @@ fn tell_clause(nums: &[i64], n: usize, i: usize) -> usize {
     let negate_p = try_io::at(nums, n, try_io::later(i, 2)) != 0;
     let first = try_io::later(i, 4);
     let mut p = [0i32; 64];
-    try_io::words_from(nums, n, first, &mut p);
-    let j = try_io::words_within(try_io::at(nums, n, try_io::later(i, 3)), &p);
+    let size_p = try_io::at(nums, n, try_io::later(i, 3));
+    try_io::words_from(nums, n, first, try_io::as_usize(size_p), &mut p);
+    let j = try_io::words_within(size_p, &p);
     let after = try_io::later(first, j);
     let negate_q = try_io::at(nums, n, after) != 0;
     let second = try_io::later(after, 2);
     let mut q = [0i32; 64];
-    try_io::words_from(nums, n, second, &mut q);
-    let k = try_io::words_within(try_io::at(nums, n, try_io::later(after, 1)), &q);
+    let size_q = try_io::at(nums, n, try_io::later(after, 1));
+    try_io::words_from(nums, n, second, try_io::as_usize(size_q), &mut q);
+    let k = try_io::words_within(size_q, &q);
     let mut room = [MARK; 64];
     let len = try_io::words_within(try_io::at(nums, n, i), &room);
     show_clause(&mut room[..len], fill, &p[..j], negate_p, &q[..k], negate_q);
@@ -95,13 +98,15 @@ fn show_clause(buf: &mut [i32], fill: usize, p: &[i32], negate_p: bool, q: &[i32
 fn tell_values(nums: &[i64], n: usize, i: usize) -> usize {
     let first = try_io::later(i, 1);
     let mut words = [0i32; 64];
-    try_io::words_from(nums, n, first, &mut words);
-    let k = try_io::words_within(try_io::at(nums, n, i), &words);
+    let size = try_io::at(nums, n, i);
+    try_io::words_from(nums, n, first, try_io::as_usize(size), &mut words);
+    let k = try_io::words_within(size, &words);
     let after = try_io::later(first, k);
     let second = try_io::later(after, 1);
     let mut values = [false; 64];
-    try_io::values_from(nums, n, second, &mut values);
-    let m = try_io::values_within(try_io::at(nums, n, after), &values);
+    let given = try_io::at(nums, n, after);
+    try_io::values_from(nums, n, second, try_io::as_usize(given), &mut values);
+    let m = try_io::values_within(given, &values);
     try_io::say_bool(clauses::evaluate(&words[..k], &values[..m]));
     try_io::end();
     try_io::later(second, m)

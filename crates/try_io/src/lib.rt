@@ -230,10 +230,11 @@ pub fn end() {
     io::write_all(STDOUT_FILENO, b"\n");
 }
 
-// The numbers from a place on, as words.
-pub fn words_from(nums: &[i64], n: usize, from: usize, words: &mut [i32]) {
+// The numbers from a place on, as words: as many as are asked for, if the list is long enough.
+pub fn words_from(nums: &[i64], n: usize, from: usize, count: usize, words: &mut [i32]) {
+    let stop = least(count, words.len());
     let mut i = 0;
-    while i < words.len() {
+    while i < stop {
         let x = at(nums, n, later(from, i));
         let w = as_i32(x);
         words[i] = w;
@@ -242,9 +243,10 @@ pub fn words_from(nums: &[i64], n: usize, from: usize, words: &mut [i32]) {
 }
 
 // The numbers from a place on, as truth values: 0 is false.
-pub fn values_from(nums: &[i64], n: usize, from: usize, values: &mut [bool]) {
+pub fn values_from(nums: &[i64], n: usize, from: usize, count: usize, values: &mut [bool]) {
+    let stop = least(count, values.len());
     let mut i = 0;
-    while i < values.len() {
+    while i < stop {
         values[i] = at(nums, n, later(from, i)) != 0;
         i += 1;
     }

@@ -8,13 +8,16 @@ use Rattle.try_io.proofs.values_from.Statement.{statement}
 use Rattle.try_io.proofs.values_from.Tie as tie
 
 abbrev Inv-loop : tie.InvT-loop
-Inv-loop nums n from values₀ i₀ values i = (i ≤ length values₀) × (length values ≡ length values₀)
+Inv-loop nums n from count values₀ stop i₀ values i = (stop ≤ length values₀) × (length values ≡ length values₀)
 
 abbrev μ-loop : tie.MeasureT-loop
-μ-loop nums n from values₀ i₀ values i = length values₀ - i
+μ-loop nums n from count values₀ stop i₀ values i = stop - i
+
+least-requires : tie.Need-least-requires Inv-loop μ-loop
+least-requires c κs = search needs
 
 loop-holds : tie.Need-loop-holds Inv-loop μ-loop
-loop-holds c = search needs
+loop-holds c = (omega arith, search needs)
 
 later-requires : tie.Need-later-requires Inv-loop μ-loop
 later-requires c κs = search needs
@@ -29,10 +32,10 @@ add-i : tie.Need-add-i Inv-loop μ-loop
 add-i c = search needs
 
 loop-less : tie.Need-loop-less Inv-loop μ-loop
-loop-less c = omega arith
+loop-less c = search needs
 
 loop-again : tie.Need-loop-again Inv-loop μ-loop
-loop-again c = (omega arith, simp length-set (c .before .before .before .loop .inv .1))
+loop-again c = (search needs, simp length-set (c .before .before .before .loop .inv .1))
 
 same-length : tie.Need-same-length Inv-loop μ-loop
 same-length c = search needs
@@ -46,6 +49,7 @@ values-from-spec =
     (tie.spec
     Inv-loop
     μ-loop
+    least-requires
     loop-holds
     later-requires
     at-requires

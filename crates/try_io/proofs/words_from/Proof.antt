@@ -8,13 +8,16 @@ use Rattle.try_io.proofs.words_from.Statement.{statement}
 use Rattle.try_io.proofs.words_from.Tie as tie
 
 abbrev Inv-loop : tie.InvT-loop
-Inv-loop nums n from words₀ i₀ words i = (i ≤ length words₀) × (length words ≡ length words₀)
+Inv-loop nums n from count words₀ stop i₀ words i = (stop ≤ length words₀) × (length words ≡ length words₀)
 
 abbrev μ-loop : tie.MeasureT-loop
-μ-loop nums n from words₀ i₀ words i = length words₀ - i
+μ-loop nums n from count words₀ stop i₀ words i = stop - i
+
+least-requires : tie.Need-least-requires Inv-loop μ-loop
+least-requires c κs = search needs
 
 loop-holds : tie.Need-loop-holds Inv-loop μ-loop
-loop-holds c = search needs
+loop-holds c = (omega arith, search needs)
 
 later-requires : tie.Need-later-requires Inv-loop μ-loop
 later-requires c κs = search needs
@@ -35,10 +38,10 @@ add-i : tie.Need-add-i Inv-loop μ-loop
 add-i c = search needs
 
 loop-less : tie.Need-loop-less Inv-loop μ-loop
-loop-less c = omega arith
+loop-less c = search needs
 
 loop-again : tie.Need-loop-again Inv-loop μ-loop
-loop-again c = (omega arith, simp length-set (c .before .before .before .before .loop .inv .1))
+loop-again c = (search needs, simp length-set (c .before .before .before .before .loop .inv .1))
 
 same-length : tie.Need-same-length Inv-loop μ-loop
 same-length c = search needs
@@ -52,6 +55,7 @@ words-from-spec =
     (tie.spec
     Inv-loop
     μ-loop
+    least-requires
     loop-holds
     later-requires
     at-requires
