@@ -1,0 +1,392 @@
+// The comparators' clauses, and how much they take. Once a call the outputs' connections become codes, and the codes pairs of words; for each
+// bound the words of its bits stand in a row, and each clause is its first word and the row from a place on: a tail.
+ghost use mathlib.Core.Path.{_≡_};
+ghost use mathlib.Core.List.{[], _∷_, _++_};
+ghost use mathlib.Core.Option.{Option, some};
+ghost use Prim.Native.Nat.{_+_, _≤_, _<_, _^_};
+ghost use lib.ListN.{length, getD, drop, take};
+ghost use lib.Seq.{sets};
+ghost use lib.Dec.{leb};
+ghost use Rattle.model.specs.Logic.{Lit, pL, nL};
+ghost use Rattle.model.specs.Words.{word, buffer, lay, putEach};
+ghost use Rattle.model.specs.Signs.{Dir, iff, onlyif};
+ghost use Rattle.model.specs.Compare.{Outs, outLit, outLits, higher, clauseOf, compareRows, comparator};
+ghost use Rattle.comparators.specs.Codes.{codeOf, codesOf, pairWord, pairsOf};
+ghost use Rattle.comparators.specs.Rows.{sink, wants, sizeOf, onlyFrom, Paired, Standing, opens, Rowed};
+
+// What stands in the buffer after a comparator: the fill, and the count of clauses.
+pub struct Filled {
+    pub fill: usize,
+    pub clauses: usize,
+}
+
+// What a comparator takes.
+pub struct Need {
+    pub words: usize,
+    pub clauses: usize,
+}
+
+// The row of a bound: how many words it has, the lowest output that takes part, and the bound from there up.
+pub struct Row {
+    pub len: usize,
+    pub lowest: usize,
+    pub rest: u64,
+}
+
+// In a pair: there is no output. No literal's word is the least number.
+const ABSENT: i32 = -2147483648;
+
+// The number at a place of the node table, 0 beyond it.
+fn number_at(nodes: &[u32], place: usize) -> u32
+    ensures { λ r. ⌜ r ≡ getD (now (nodes .entry)) place 0 ⌝ }
+{
+    if place < nodes.len() {
+        return nodes[place];
+    }
+    0
+}
+
+// The code of a variable as it stands.
+fn code_of(n: u32) -> u32
+    ensures { λ r. ⌜ r ≡ codeOf (some (pL n)) ⌝ }
+{
+    let c = n % 0x8000_0000 * 2;
+    if c == 0 {
+        return 1;
+    }
+    c
+}
+
+// The code of an output's connection word.
+fn code_at(nodes: &[u32], w: u32) -> u32
+    ensures { λ r. ⌜ r ≡ codeOf (outLit (now (nodes .entry)) w) ⌝ }
+{
+    if w == 0 {
+        return 0;
+    }
+    let n = w / 4;
+    let k = w % 4;
+    if k == 0 {
+        return code_of(n);
+    }
+    if k == 1 {
+        return n * 2 + 1;
+    }
+    let place = n as usize * 8 + k as usize + 2;
+    let x = number_at(nodes, place);
+    code_of(x)
+}
+
+// The codes of the outputs.
+pub fn resolve(nodes: &[u32], outputs: [u32; 48]) -> [u32; 48]
+    ensures { λ r. ⌜ r ≡ codesOf (outLits (now (nodes .entry)) outputs) ⌝ }
+{
+    let mut codes: [u32; 48] = [0; 48];
+    let mut i: usize = 0;
+    while i < 48 {
+        let w = outputs[i];
+        let c = code_at(nodes, w);
+        codes[i] = c;
+        i += 1;
+    }
+    codes
+}
+
+// A variable's word, as it stands or negated.
+fn plain_word(n: u32) -> i32
+    ensures { λ r. ⌜ r ≡ word (pL n) ⌝ }
+{
+    (n % 0x8000_0000) as i32
+}
+
+fn minus_word(n: u32) -> i32
+    ensures { λ r. ⌜ r ≡ word (nL n) ⌝ }
+{
+    0 - ((n % 0x8000_0000) as i32)
+}
+
+// A code's word, as it stands at 0 and negated at 1.
+fn word_of(code: u32, turn: u32) -> i32
+    ensures { λ r. ⌜ ((o : Option Lit) → code ≡ codeOf o → turn < 2 → r ≡ pairWord turn o) ⌝ }
+{
+    if code == 0 {
+        return ABSENT;
+    }
+    if code % 2 == turn {
+        return plain_word(code / 2);
+    }
+    minus_word(code / 2)
+}
+
+// The pairs of the outputs, at 2i and 2i + 1.
+pub fn pairs_of(codes: [u32; 48]) -> [i32; 96]
+    ensures { λ r. ⌜ ((os : Outs) → codes ≡ codesOf os → r ≡ pairsOf os) ⌝ }
+{
+    let mut pairs: [i32; 96] = [0; 96];
+    let mut i: usize = 0;
+    while i < 48 {
+        let c = codes[i];
+        let p = word_of(c, 0);
+        let q = word_of(c, 1);
+        pairs[i * 2] = p;
+        pairs[i * 2 + 1] = q;
+        i += 1;
+    }
+    pairs
+}
+
+// The words of the bits of r, the absent ones left out, then the bound's word and 0. A 1 whose output is absent shuts out all below it.
+fn row_of(row: &mut [i32], pairs: &[i32; 96], len: usize, r: u64, own: i32) -> Row
+    requires { ⌜ (len ≤ 48) × (50 ≤ length (now row)) ⌝ }
+    ensures { λ s. ⌜ ((2 ≤ s .len) × (s .len ≤ 50) × (s .lowest ≤ len)) × ((os : Outs) → Paired os len (now (pairs .entry)) → Rowed os r own (now (row .exit)) s) ⌝ }
+{
+    let mut q: usize = 0;
+    let mut lowest: usize = 0;
+    let mut low = r;
+    let mut left = r;
+    let mut j: usize = 0;
+    while j < len {
+        let one = (left % 2) as usize;
+        let w = pairs[j * 2 + one];
+        left = left / 2;
+        j += 1;
+        if w != ABSENT {
+            row[q] = w;
+            q += 1;
+        } else if one == 1 {
+            q = 0;
+            lowest = j;
+            low = left;
+        }
+    }
+    row[q] = own;
+    row[q + 1] = 0;
+    Row {
+        len: q + 2,
+        lowest: lowest,
+        rest: low,
+    }
+}
+
+// Whether n words fit from the fill on.
+fn has_room(len: usize, fill: usize, n: usize) -> bool
+    ensures { λ r. ⌜ r ≡ leb (fill + n) len ⌝ }
+{
+    if len < fill {
+        return false;
+    }
+    n <= len - fill
+}
+
+// The words of a tail, from a place on: the room is tested by the caller, once for the clause.
+fn copy_tail(clauses: &mut [i32], at: usize, tail: &[i32])
+    requires { ⌜ at + length (now tail) ≤ length (now clauses) ⌝ }
+    ensures { λ _. ⌜ now (clauses .exit) ≡ sets (now (clauses .entry)) at (now (tail .entry)) ⌝ }
+{
+    let mut i = 0;
+    while i < tail.len() {
+        clauses[at + i] = tail[i];
+        i += 1;
+    }
+}
+
+// A clause: its first word and a tail, where there is room; the fill after it.
+fn put_tail(clauses: &mut [i32], first: i32, tail: &[i32], fill: usize) -> usize
+    requires { ⌜ length (now tail) ≤ 64 ⌝ }
+    ensures { λ r. ⌜ buffer r (now (clauses .exit)) ≡ lay (first ∷ now (tail .entry)) (buffer fill (now (clauses .entry))) ⌝ }
+{
+    let n = tail.len() + 1;
+    if has_room(clauses.len(), fill, n) {
+        clauses[fill] = first;
+        copy_tail(clauses, fill + 1, tail);
+        return clauses::raised(fill, n);
+    }
+    clauses::raised(fill, n)
+}
+
+// The clauses that begin at the bits of the row that are wanted: 0 for if, 1 for only-if.
+fn put_tails(
+    clauses: &mut [i32],
+    row: &[i32],
+    pairs: &[i32; 96],
+    len: usize,
+    want: usize,
+    lowest: usize,
+    rest: u64,
+    fill: usize,
+    count: usize,
+) -> Filled
+    requires { ⌜ (len ≤ 48) × (want < 2) × (lowest ≤ len) × (length (now row) ≤ 64) ⌝ }
+    ensures { λ s. ⌜ ((δ : Dir) (os : Outs) (b : Lit) → want ≡ wants δ → Paired os len (now (pairs .entry)) → Standing (drop lowest os) rest (word b) (now (row .entry)) → sink (now (clauses .exit)) (s .fill) (s .clauses) ≡ putEach (compareRows δ (drop lowest os) rest b) (sink (now (clauses .entry)) fill count)) ⌝ }
+{
+    let mut at = fill;
+    let mut n = count;
+    let mut p: usize = 0;
+    let mut left = rest;
+    let mut i = lowest;
+    while i < len {
+        let first = pairs[i * 2 + (1 - want)];
+        let bit = (left % 2) as usize;
+        left = left / 2;
+        i += 1;
+        if first != ABSENT {
+            p += 1;
+            if bit == want {
+                if p <= row.len() {
+                    at = put_tail(clauses, first, &row[p..], at);
+                    n = clauses::raised(n, 1);
+                }
+            }
+        }
+    }
+    Filled {
+        fill: at,
+        clauses: n,
+    }
+}
+
+// If, for r: the clauses that say that a value of the outputs above r makes the bound's literal true. The row is scratch. Document 01 has
+// at most 48 outputs.
+pub fn comparator_if(
+    clauses: &mut [i32],
+    row: &mut [i32],
+    pairs: &[i32; 96],
+    len: usize,
+    r: u64,
+    own: u32,
+    fill: usize,
+    count: usize,
+) -> Filled
+    requires { ⌜ (len ≤ 48) × (50 ≤ length (now row)) ⌝ }
+    ensures { λ s. ⌜ ((os : Outs) → now (pairs .entry) ≡ pairsOf os → len ≤ length os → sink (now (clauses .exit)) (s .fill) (s .clauses) ≡ putEach (comparator iff (take len os) r (pL own)) (sink (now (clauses .entry)) fill count)) ⌝ }
+{
+    let w = plain_word(own);
+    let s = row_of(row, pairs, len, r, w);
+    let n = s.len;
+    put_tails(clauses, &row[0..n], pairs, len, 0, s.lowest, s.rest, fill, count)
+}
+
+// r + 1. At the greatest number, whose 1 is above all outputs, 0 has the same bits.
+fn next_of(r: u64) -> u64
+    ensures { λ q. ⌜ ((os : Outs) (b : Lit) → length os ≤ 48 → onlyFrom os q b ≡ comparator onlyif os r b) ⌝ }
+{
+    if r == 18446744073709551615 {
+        return 0;
+    }
+    r + 1
+}
+
+// 2 to the power of the outputs' number.
+fn power(len: usize) -> u64
+    requires { ⌜ len ≤ 48 ⌝ }
+    ensures { λ t. ⌜ t ≡ 2 ^ len ⌝ }
+{
+    1 << len
+}
+
+// The clauses of a row for only-if: where a 1 has no output, the whole row is one of them.
+fn put_ones(
+    clauses: &mut [i32],
+    row: &[i32],
+    pairs: &[i32; 96],
+    len: usize,
+    lowest: usize,
+    rest: u64,
+    fill: usize,
+    count: usize,
+) -> Filled
+    requires { ⌜ (len ≤ 48) × (lowest ≤ len) × (2 ≤ length (now row)) × (length (now row) ≤ 64) ⌝ }
+    ensures { λ s. ⌜ ((os : Outs) (b : Lit) → Paired os len (now (pairs .entry)) → Standing (drop lowest os) rest (word b) (now (row .entry)) → sink (now (clauses .exit)) (s .fill) (s .clauses) ≡ putEach (clauseOf (opens onlyif lowest) (higher (drop lowest os) rest) b ++ compareRows onlyif (drop lowest os) rest b) (sink (now (clauses .entry)) fill count)) ⌝ }
+{
+    if 0 < lowest {
+        let f = put_tail(clauses, row[0], &row[1..], fill);
+        let n = clauses::raised(count, 1);
+        return put_tails(clauses, row, pairs, len, 1, lowest, rest, f, n);
+    }
+    put_tails(clauses, row, pairs, len, 1, lowest, rest, fill, count)
+}
+
+// Only-if, for r: the clauses that say that the bound's literal makes the value of the outputs lie above r.
+pub fn comparator_only_if(
+    clauses: &mut [i32],
+    row: &mut [i32],
+    pairs: &[i32; 96],
+    len: usize,
+    r: u64,
+    own: u32,
+    fill: usize,
+    count: usize,
+) -> Filled
+    requires { ⌜ (len ≤ 48) × (50 ≤ length (now row)) ⌝ }
+    ensures { λ s. ⌜ ((os : Outs) → now (pairs .entry) ≡ pairsOf os → len ≤ length os → sink (now (clauses .exit)) (s .fill) (s .clauses) ≡ putEach (comparator onlyif (take len os) r (pL own)) (sink (now (clauses .entry)) fill count)) ⌝ }
+{
+    let q = next_of(r);
+    let w = minus_word(own);
+    if q == power(len) {
+        let end = [0i32; 1];
+        let f = put_tail(clauses, w, &end, fill);
+        let n = clauses::raised(count, 1);
+        return Filled {
+            fill: f,
+            clauses: n,
+        };
+    }
+    let s = row_of(row, pairs, len, q, w);
+    let n = s.len;
+    put_ones(clauses, &row[0..n], pairs, len, s.lowest, s.rest, fill, count)
+}
+
+// What the clauses that begin at the wanted bits take, in one pass: a bit whose output is present gives a word to each clause begun so far.
+fn need_of(codes: &[u32; 48], len: usize, want: usize, r: u64) -> Need
+    requires { ⌜ (len ≤ 48) × (want < 2) ⌝ }
+    ensures { λ s. ⌜ ((δ : Dir) (os : Outs) (b : Lit) → want ≡ wants δ → now (codes .entry) ≡ codesOf os → len ≤ length os → s ≡ sizeOf (compareRows δ (take len os) r b)) ⌝ }
+{
+    let mut w: usize = 0;
+    let mut n: usize = 0;
+    let mut left = r;
+    let mut j: usize = 0;
+    while j < len {
+        let one = (left % 2) as usize;
+        let code = codes[j];
+        left = left / 2;
+        j += 1;
+        if code != 0 {
+            if one == want {
+                n += 1;
+                w = w + n;
+            } else {
+                w = w + n;
+            }
+        } else if one == 1 {
+            w = 0;
+            n = want;
+        }
+    }
+    Need {
+        words: w + n * 2,
+        clauses: n,
+    }
+}
+
+// What comparator_if takes.
+pub fn need_if(codes: &[u32; 48], len: usize, r: u64) -> Need
+    requires { ⌜ len ≤ 48 ⌝ }
+    ensures { λ s. ⌜ ((os : Outs) (b : Lit) → now (codes .entry) ≡ codesOf os → len ≤ length os → s ≡ sizeOf (comparator iff (take len os) r b)) ⌝ }
+{
+    need_of(codes, len, 0, r)
+}
+
+// What comparator_only_if takes.
+pub fn need_only_if(codes: &[u32; 48], len: usize, r: u64) -> Need
+    requires { ⌜ len ≤ 48 ⌝ }
+    ensures { λ s. ⌜ ((os : Outs) (b : Lit) → now (codes .entry) ≡ codesOf os → len ≤ length os → s ≡ sizeOf (comparator onlyif (take len os) r b)) ⌝ }
+{
+    let q = next_of(r);
+    if q == power(len) {
+        return Need {
+            words: 2,
+            clauses: 1,
+        };
+    }
+    need_of(codes, len, 1, q)
+}
