@@ -2,3 +2,4 @@
 pub mod Buffer
 pub mod Literals
 pub mod Emission
+pub mod Frame
