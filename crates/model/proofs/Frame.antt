@@ -243,6 +243,10 @@ layAll-cut (c ∷ cs) b =
     = layAll-fill cs (lay (clauseWords c) b) (omega arith) in
     omega (arith, e, length-append (clauseWords c) (flat cs))
 
+pub count-none : (cs : List (List Lit)) (s : Counts) → count [] (count cs s) ≡ count cs (count [] s)
+unfolding count flat
+count-none cs s = rw (cut (s .fill) (length (flat cs)), cut (s .clauses) (length cs))
+
 -- no clauses put as a batch cut the counts to what a word holds, which put one by one they do not; once cut, both ways count alike
 pub tally-each : (cs : List (List Lit)) (s : Sink) → count [] (tally (putEach cs s)) ≡ count cs (count [] (tally s))
 unfolding count putEach flat

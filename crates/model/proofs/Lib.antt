@@ -3,3 +3,4 @@ pub mod Buffer
 pub mod Literals
 pub mod Emission
 pub mod Frame
+pub mod Bounding
