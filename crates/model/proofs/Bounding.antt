@@ -4,26 +4,27 @@
 -- Assumes nothing.
 use mathlib.Core.Path.{_≡_, refl, sym, ap, _∙_}
 use mathlib.Core.Logic.{_⊎_, inl, inr}
-use mathlib.Core.Bool.{Bool, true, false, cond, _||_}
+use mathlib.Core.Bool.{Bool, true, false, cond, _||_, or-assoc, or-comm}
 use mathlib.Core.List.{List, [], _∷_, _++_, append-nil, append-assoc}
 use Prim.Native.Nat.{ℕ, zero, suc, _+_, _*_, _^_, _≤_, _<_, min}
 use native.Mathlib.Omega.{arith}
-use borrow.Author.Tests.{lt-ltb, le-ltb, ltb-true, ltb-false}
-use lib.Dec.{eqb, ltb}
+use borrow.Author.Tests.{lt-ltb, le-ltb, eq-eqb, ne-eqb}
+use lib.Dec.{eqb, ltb, leb·suc-suc}
 use lib.ListN.{length, getD, set, length-append, length-set}
-use lib.Seq.{sets, length-sets}
+use lib.Seq.{sets, length-sets, getD-set-same, getD-set-other}
 use Rattle.model.specs.Limits.{mostFill}
 use Rattle.model.specs.Logic.{Lit, pL}
 use Rattle.model.specs.Words.{clauseWords, flat, buffer, raised, Sink, putBatch, putEach}
 use Rattle.model.specs.Signs.{Dir, iff, onlyif}
 use Rattle.model.specs.Nodes.{bump}
-use Rattle.model.specs.Buckets.{present}
+use Rattle.model.specs.Buckets.{Pending, ifPending, present}
 use Rattle.model.specs.Emit.{Em, emitAll}
 use Rattle.model.specs.Compare.{outLits, comparator}
-use Rattle.model.specs.Machine.{Record, Machine, recordAt, markedIn, dirPlace, findFrom, find}
+use Rattle.model.specs.Machine.{Record, Machine, pending, recordAt, markedIn, dirPlace, findFrom, find}
 use Rattle.model.specs.Bounds.{valuesFrom, elem, missing, Work, recorded, compared, boundAll, emitted, stage, plus1, follow, Clauses}
-use Rattle.model.specs.Calls.{work}
+use Rattle.model.specs.Calls.{built, known, recordsAfter, work}
 use Rattle.model.proofs.Buffer.{sets-append, layAll-fits}
+use Rattle.model.proofs.Literals.{by-test}
 use Rattle.model.proofs.Emission.{em, onSink, emit-step, emit-map, emit-length, flat-append, Fits, put-fits, bump-rises, bump-plain}
 use Rattle.model.proofs.Frame.{Counts, count, tally, tally-batch, tally-each, count-append, count-none}
 
@@ -173,6 +174,10 @@ module _ (up : ℕ → ℕ) (δ : Dir) (n : ℕ) (os vs : List ℕ) where
   pub stage-count : (c : Counts) (w : Work Clauses) → onWork (λ cs. count cs c) (stage up follow follow δ n os vs w) ≡ stage up count count δ n os vs (onWork (λ cs. count cs c) w)
   stage-count c w = stage-map (λ cs. count cs c) up follow count (λ cs ds. count-append ds cs c) follow count (λ cs ds. count-append ds cs c) δ n os vs w
 
+-- both directions of an encoding: up, then down
+abbrev pub stages : {S : Type 0} → (ℕ → ℕ) → (gates puts : List (List Lit) → S → S) → ℕ → (os ups downs : List ℕ) → Work S → Work S
+stages up gates puts n os ups downs w = stage up gates puts onlyif n os downs (stage up gates puts iff n os ups w)
+
 -- ---- where all fits: the clauses stand from the fill on, and the numbers are sums
 abbrev pub laid : Sink → List (List Lit) → Sink
 laid s cs = record { buffer = buffer (s .buffer .fill + length (flat cs)) (sets (s .buffer .words) (s .buffer .fill) (flat cs)); clauses = s .clauses + length cs }
@@ -241,18 +246,298 @@ module _ (s : Sink) (k : s .clauses ≤ s .buffer .fill) where
       → stage bump putBatch putEach δ n os vs (onWork (laid s) w) ≡ onWork (laid s) (stage plus1 follow follow δ n os vs w)
   stage-fits δ n os vs w h l = sym (stage-low δ n os vs .at w (h, l) .1)
 
-  -- the whole of an encoding's work on the lent tables
+  pub stages-fits : (n : ℕ) (os ups downs : List ℕ) (w : Work Clauses) → Fits s (stages plus1 follow follow n os ups downs w .em .sink)
+      → stages plus1 follow follow n os ups downs w .em .next < 0xffff_ffff
+      → stages bump putBatch putEach n os ups downs (onWork (laid s) w) ≡ onWork (laid s) (stages plus1 follow follow n os ups downs w)
+  stages-fits n os ups downs w h l = sym (after (laid s) (Low s) (stage-low iff n os ups) (stage-low onlyif n os downs) .at w (h, l) .1)
+
+  -- the whole of an encoding's work, on the lent tables
   pub work-fits : (ups downs : List ℕ) (b : Machine) → Fits s (work ups downs b .em .sink) → work ups downs b .em .next < 0xffff_ffff
-      → stage bump putBatch putEach onlyif (b .party .nodes) (present (b .party .outputs)) downs
-      (stage bump putBatch putEach iff (b .party .nodes) (present (b .party .outputs)) ups (wk (em (b .nodes) (b .next) s) (b .bounds) (b .party .bounds)))
-      ≡ onWork (laid s) (work ups downs b)
+      → stages bump putBatch putEach (b .party .nodes) (present (b .party .outputs)) ups downs (wk (em (b .nodes) (b .next) s) (b .bounds) (b .party .bounds)) ≡ onWork (laid s) (work ups downs b)
   unfolding work
   work-fits ups downs b h l =
       let n : ℕ = b .party .nodes in
       let os : List ℕ = present (b .party .outputs) in
       let w : Work Clauses = wk (em (b .nodes) (b .next) []) (b .bounds) (b .party .bounds) in
-      let p = stage-low onlyif n os downs .at (stage plus1 follow follow iff n os ups w) (h, l) in
-      let q = stage-low iff n os ups .at w (p .0) in
-      ap (λ (x : Sink). stage bump putBatch putEach onlyif n os downs (stage bump putBatch putEach iff n os ups (onWork (λ cs. x) w))) (laid-none s)
-      ∙ ap (stage bump putBatch putEach onlyif n os downs) (sym (q .1))
-      ∙ sym (p .1)
+      ap (λ (x : Sink). stages bump putBatch putEach n os ups downs (onWork (λ cs. x) w)) (laid-none s) ∙ stages-fits n os ups downs w h l
+
+-- ---- the records
+-- a value's place in a list; the length where it is absent
+abbrev place : ℕ → List ℕ → ℕ
+place v [] = 0
+place v (u ∷ us) = cond (eqb u v) 0 (suc (place v us))
+
+find-place : (t : List ℕ) (v i n : ℕ) → findFrom t v i n ≡ i + place v (valuesFrom t i n)
+find-place t v i zero = omega arith
+find-place t v i (suc n) = go (eqb (getD t (3 * i) 0) v) (find-place t v (suc i) n)
+  where
+    go : (b : Bool) → findFrom t v (suc i) n ≡ suc i + place v (valuesFrom t (suc i) n) → cond b i (findFrom t v (suc i) n) ≡ i + cond b 0 (suc (place v (valuesFrom t (suc i) n)))
+    go true h = omega arith
+    go false h = omega arith
+
+place-elem : (v : ℕ) (us : List ℕ) → ltb (place v us) (length us) ≡ elem v us
+place-elem v [] = refl
+place-elem v (u ∷ us) = go (eqb u v) (place-elem v us)
+  where
+    go : (b : Bool) → ltb (place v us) (length us) ≡ elem v us → ltb (cond b 0 (suc (place v us))) (suc (length us)) ≡ (b || elem v us)
+    go true h = lt-ltb 0 (suc (length us)) (omega arith)
+    go false h = leb·suc-suc (suc (place v us)) (length us) ∙ h
+
+place-append : (v : ℕ) (us ws : List ℕ) → place v (us ++ ws) ≡ cond (elem v us) (place v us) (length us + place v ws)
+place-append v [] ws = omega arith
+place-append v (u ∷ us) ws = go (eqb u v) (elem v us) (place-append v us ws)
+  where
+    go : (b c : Bool) → place v (us ++ ws) ≡ cond c (place v us) (length us + place v ws)
+        → cond b 0 (suc (place v (us ++ ws))) ≡ cond (b || c) (cond b 0 (suc (place v us))) (suc (length us) + place v ws)
+    go true c h = refl
+    go false true h = ap suc h
+    go false false h = omega arith
+
+length-values : (t : List ℕ) (i n : ℕ) → length (valuesFrom t i n) ≡ n
+length-values t i zero = refl
+length-values t i (suc n) = ap suc (length-values t (suc i) n)
+
+find-values : (t : List ℕ) (n v : ℕ) → find t n v ≡ place v (valuesFrom t 0 n)
+unfolding find
+find-values t n v = omega (arith, find-place t v 0 n)
+
+-- a value has a record exactly where it is among the values
+pub found : (t : List ℕ) (n v : ℕ) → ltb (find t n v) n ≡ elem v (valuesFrom t 0 n)
+found t n v =
+    ap (λ (k : ℕ). ltb k n) (find-values t n v)
+    ∙ ap (ltb (place v (valuesFrom t 0 n))) (sym (length-values t 0 n))
+    ∙ place-elem v (valuesFrom t 0 n)
+
+-- the values are kept where the first words of the records are
+values-kept : (t t′ : List ℕ) (i n : ℕ) → ((j : ℕ) → j < i + n → getD t′ (3 * j) 0 ≡ getD t (3 * j) 0) → valuesFrom t′ i n ≡ valuesFrom t i n
+values-kept t t′ i zero h = refl
+values-kept t t′ i (suc n) h = rw (h i (omega arith), values-kept t t′ (suc i) n (λ j k. h j (omega arith)))
+
+values-last : (t : List ℕ) (i n : ℕ) → valuesFrom t i (suc n) ≡ valuesFrom t i n ++ (getD t (3 * (i + n)) 0 ∷ [])
+values-last t i zero =
+    let e : i + 0 ≡ i = omega arith in
+    rw e
+values-last t i (suc n) =
+    let e : suc i + n ≡ i + suc n = omega arith in
+    ap (λ (us : List ℕ). getD t (3 * i) 0 ∷ us) (values-last t (suc i) n ∙ ap (λ (k : ℕ). valuesFrom t (suc i) n ++ (getD t (3 * k) 0 ∷ [])) e)
+
+-- a record behind the others, and the place of its value
+abbrev pub behind : List ℕ → ℕ → ℕ → ℕ → ℕ → List ℕ
+behind t n v x y = sets t (3 * n) (v ∷ x ∷ y ∷ [])
+
+module _ (t : List ℕ) (n v x y : ℕ) where
+  before : (j : ℕ) → j < n → getD (behind t n v x y) (3 * j) 0 ≡ getD t (3 * j) 0
+  before j h =
+      getD-set-other (set (set t (3 * n) v) (suc (3 * n)) x) (suc (suc (3 * n))) (3 * j) y 0 (λ e. omega arith)
+      ∙ getD-set-other (set t (3 * n) v) (suc (3 * n)) (3 * j) x 0 (λ e. omega arith)
+      ∙ getD-set-other t (3 * n) (3 * j) v 0 (λ e. omega arith)
+
+  own : 3 * n < length t → getD (behind t n v x y) (3 * n) 0 ≡ v
+  own h =
+      getD-set-other (set (set t (3 * n) v) (suc (3 * n)) x) (suc (suc (3 * n))) (3 * n) y 0 (λ e. omega arith)
+      ∙ getD-set-other (set t (3 * n) v) (suc (3 * n)) (3 * n) x 0 (λ e. omega arith)
+      ∙ getD-set-same t (3 * n) v 0 h
+
+  values-behind : valuesFrom (behind t n v x y) 0 (n + 1) ≡ valuesFrom t 0 n ++ (getD (behind t n v x y) (3 * n) 0 ∷ [])
+  values-behind =
+      let e : n + 1 ≡ suc n = omega arith in
+      let z : 0 + n ≡ n = omega arith in
+      ap (valuesFrom (behind t n v x y) 0) e
+      ∙ values-last (behind t n v x y) 0 n
+      ∙ rw (z, values-kept t (behind t n v x y) 0 n (λ j h. before j (omega arith)))
+
+  pub values-more : 3 * n < length t → valuesFrom (behind t n v x y) 0 (n + 1) ≡ valuesFrom t 0 n ++ (v ∷ [])
+  values-more h = values-behind ∙ ap (λ (u : ℕ). valuesFrom t 0 n ++ (u ∷ [])) (own h)
+
+  find-behind : (u z : ℕ) → getD (behind t n v x y) (3 * n) 0 ≡ z → find (behind t n v x y) (n + 1) u ≡ cond (elem u (valuesFrom t 0 n)) (find t n u) (n + place u (z ∷ []))
+  find-behind u z e =
+      find-values (behind t n v x y) (n + 1) u
+      ∙ ap (place u) (values-behind ∙ ap (λ (k : ℕ). valuesFrom t 0 n ++ (k ∷ [])) e)
+      ∙ place-append u (valuesFrom t 0 n) (z ∷ [])
+      ∙ rw (sym (find-values t n u), length-values t 0 n)
+
+  -- a value that has a record keeps its place; one that has none gets the new record, if that is its own
+  pub find-kept : (u : ℕ) → find t n u < n → find (behind t n v x y) (n + 1) u ≡ find t n u
+  find-kept u h = find-behind u _ refl ∙ rw (sym (found t n u) ∙ lt-ltb (find t n u) n h)
+
+  pub find-new : n ≤ find t n v → 3 * n < length t → find (behind t n v x y) (n + 1) v ≡ n
+  find-new h k = find-behind v v (own k) ∙ rw (sym (found t n v) ∙ le-ltb (find t n v) n h, eq-eqb v v refl) (omega arith)
+
+  pub find-none : (u : ℕ) → n ≤ find t n u → 3 * n < length t → (v ≡ u → ⊥) → find (behind t n v x y) (n + 1) u ≡ n + 1
+  find-none u h k d = find-behind u v (own k) ∙ rw (sym (found t n u) ∙ le-ltb (find t n u) n h, ne-eqb v u d)
+
+pub values-marked : (t : List ℕ) (i x n : ℕ) → valuesFrom (set t (3 * i + 2) x) 0 n ≡ valuesFrom t 0 n
+values-marked t i x n = values-kept t (set t (3 * i + 2) x) 0 n (λ j h. getD-set-other t (3 * i + 2) (3 * j) x 0 (λ e. omega arith))
+
+pub find-marked : (t : List ℕ) (i x n v : ℕ) → find (set t (3 * i + 2) x) n v ≡ find t n v
+find-marked t i x n v = find-values (set t (3 * i + 2) x) n v ∙ ap (place v) (values-marked t i x n) ∙ sym (find-values t n v)
+
+-- what is known after values are asked for, each new one behind the others: as many more as were missing
+abbrev pub learn : List ℕ → List ℕ → List ℕ
+learn known [] = known
+learn known (v ∷ vs) = learn (cond (elem v known) known (known ++ (v ∷ []))) vs
+
+pub learn-append : (known us vs : List ℕ) → learn known (us ++ vs) ≡ learn (learn known us) vs
+learn-append known [] vs = refl
+learn-append known (u ∷ us) vs = learn-append (cond (elem u known) known (known ++ (u ∷ []))) us vs
+
+elem-last : (u v : ℕ) (known : List ℕ) → elem u (known ++ (v ∷ [])) ≡ elem u (v ∷ known)
+elem-last u v [] = refl
+elem-last u v (k ∷ known) = rw (elem-last u v known) (sym (or-assoc (eqb k u) (eqb v u) (elem u known)) ∙ ap (λ (b : Bool). b || elem u known) (or-comm (eqb k u) (eqb v u)) ∙ or-assoc (eqb v u) (eqb k u) (elem u known))
+
+-- what is missing rests on which values are known alone
+missing-same : (ks ks′ vs : List ℕ) → ((u : ℕ) → elem u ks ≡ elem u ks′) → missing ks vs ≡ missing ks′ vs
+missing-same ks ks′ [] h = refl
+missing-same ks ks′ (v ∷ vs) h =
+    rw (h v, missing-same ks ks′ vs h, missing-same (v ∷ ks) (v ∷ ks′) vs (λ u. ap (λ (b : Bool). eqb v u || b) (h u)))
+
+pub learn-length : (known vs : List ℕ) → length (learn known vs) ≡ length known + missing known vs
+learn-length known [] = omega arith
+learn-length known (v ∷ vs) = go (elem v known) (learn-length known vs) (learn-length (known ++ (v ∷ [])) vs)
+  where
+    go : (b : Bool) → length (learn known vs) ≡ length known + missing known vs → length (learn (known ++ (v ∷ [])) vs) ≡ length (known ++ (v ∷ [])) + missing (known ++ (v ∷ [])) vs
+        → length (learn (cond b known (known ++ (v ∷ []))) vs) ≡ length known + cond b (missing known vs) (suc (missing (v ∷ known) vs))
+    go true p q = p
+    go false p q = omega (arith, length-append known (v ∷ []), missing-same (known ++ (v ∷ [])) (v ∷ known) vs (λ u. elem-last u v known))
+
+pub missing-append : (known us vs : List ℕ) → missing known (us ++ vs) ≡ missing known us + missing (learn known us) vs
+missing-append known us vs = omega (arith, learn-length known (us ++ vs), ap length (learn-append known us vs), learn-length (learn known us) vs, learn-length known us)
+
+-- the values of a state's records
+abbrev pub values : {S : Type 0} → Work S → List ℕ
+values w = valuesFrom (w .bounds) 0 (w .count)
+
+module _ {S : Type 0} (up : ℕ → ℕ) (puts : List (List Lit) → S → S) (δ : Dir) (os : List ℕ) where
+  -- the table of records keeps its length
+  recorded-length : (v : ℕ) (w : Work S) → length (recorded up v w .bounds) ≡ length (w .bounds)
+  unfolding recorded
+  recorded-length v w = by-test (λ (x : Work S). length (x .bounds) ≡ length (w .bounds)) (ltb (find (w .bounds) (w .count) v) (w .count)) (λ q. refl) (λ q. length-sets (w .bounds) (3 * w .count) (v ∷ w .em .next ∷ 0 ∷ []))
+
+  compared-length : (v : ℕ) (w : Work S) → length (compared puts δ os v w .bounds) ≡ length (w .bounds)
+  unfolding compared
+  compared-length v w = by-test (λ (x : Work S). length (x .bounds) ≡ length (w .bounds)) (markedIn δ (noted v w)) (λ q. refl) (λ q. length-set (w .bounds) (3 * find (w .bounds) (w .count) v + 2) (noted v w .marks + 2 ^ dirPlace δ))
+
+  pub bound-length : (vs : List ℕ) (w : Work S) → length (boundAll up puts δ os vs w .bounds) ≡ length (w .bounds)
+  bound-length [] w = refl
+  bound-length (v ∷ vs) w = bound-length vs (compared puts δ os v (recorded up v w)) ∙ compared-length v (recorded up v w) ∙ recorded-length v w
+
+  -- comparing keeps the values, and recording puts a new one behind the others, where the table has room
+  compared-values : (v : ℕ) (w : Work S) → values (compared puts δ os v w) ≡ values w
+  unfolding compared
+  compared-values v w = by-test (λ (x : Work S). values x ≡ values w) (markedIn δ (noted v w)) (λ q. refl) (λ q. values-marked (w .bounds) (find (w .bounds) (w .count) v) (noted v w .marks + 2 ^ dirPlace δ) (w .count))
+
+  recorded-values : (v : ℕ) (w : Work S) → 3 * length (cond (elem v (values w)) (values w) (values w ++ (v ∷ []))) ≤ length (w .bounds)
+      → values (recorded up v w) ≡ cond (elem v (values w)) (values w) (values w ++ (v ∷ []))
+  unfolding recorded
+  recorded-values v w h = rw (found (w .bounds) (w .count) v) (go (elem v (values w)) h)
+    where
+      go : (b : Bool) → 3 * length (cond b (values w) (values w ++ (v ∷ []))) ≤ length (w .bounds) → values (cond b w (appended up v w)) ≡ cond b (values w) (values w ++ (v ∷ []))
+      go true h = refl
+      go false h = values-more (w .bounds) (w .count) v (w .em .next) 0 (omega (arith, length-append (values w) (v ∷ []), length-values (w .bounds) 0 (w .count)))
+
+  learns : (vs : List ℕ) (w : Work S) → 3 * length (learn (values w) vs) ≤ length (w .bounds) → values (boundAll up puts δ os vs w) ≡ learn (values w) vs
+  learns [] w h = refl
+  learns (v ∷ vs) w h =
+      let known : List ℕ = cond (elem v (values w)) (values w) (values w ++ (v ∷ [])) in
+      let x : Work S = compared puts δ os v (recorded up v w) in
+      let e : values x ≡ known = compared-values v (recorded up v w) ∙ recorded-values v w (omega (arith, learn-length known vs)) in
+      let k : length (x .bounds) ≡ length (w .bounds) = compared-length v (recorded up v w) ∙ recorded-length v w in
+      learns vs x (omega (arith, ap (λ (us : List ℕ). length (learn us vs)) e)) ∙ ap (λ (us : List ℕ). learn us vs) e
+
+  -- where the table has room, the records after are those before and one for each value that was missing
+  module _ (vs : List ℕ) (w : Work S) (room : 3 * (w .count + missing (values w) vs) ≤ length (w .bounds)) where
+    pub bound-values : values (boundAll up puts δ os vs w) ≡ learn (values w) vs
+    bound-values = learns vs w (omega (arith, learn-length (values w) vs, length-values (w .bounds) 0 (w .count)))
+
+    pub bound-count : boundAll up puts δ os vs w .count ≡ w .count + missing (values w) vs
+    bound-count =
+        let x : Work S = boundAll up puts δ os vs w in
+        omega (arith, length-values (x .bounds) 0 (x .count), ap length bound-values, learn-length (values w) vs, length-values (w .bounds) 0 (w .count))
+
+  -- the node table is left
+  compared-table : (v : ℕ) (w : Work S) → compared puts δ os v (recorded up v w) .em .table ≡ w .em .table
+  unfolding recorded compared
+  compared-table v w = by-test (λ (x : Work S). x .em .table ≡ w .em .table) (markedIn δ (noted v (recorded up v w))) (λ q. same) (λ q. same)
+    where
+      same : recorded up v w .em .table ≡ w .em .table
+      same = by-test (λ (x : Work S). x .em .table ≡ w .em .table) (ltb (find (w .bounds) (w .count) v) (w .count)) (λ q. refl) (λ q. refl)
+
+  pub bound-table : (vs : List ℕ) (w : Work S) → boundAll up puts δ os vs w .em .table ≡ w .em .table
+  bound-table [] w = refl
+  bound-table (v ∷ vs) w = bound-table vs (compared puts δ os v (recorded up v w)) ∙ compared-table v w
+
+  module _ (gates : List (List Lit) → S → S) (n : ℕ) where
+    pub stage-length : (vs : List ℕ) (w : Work S) → length (stage up gates puts δ n os vs w .bounds) ≡ length (w .bounds)
+    unfolding stage emitted
+    stage-length [] w = refl
+    stage-length (v ∷ vs) w = bound-length (v ∷ vs) (emitted up gates δ n os w)
+
+    pub stage-table : (vs : List ℕ) (w : Work S) → length (stage up gates puts δ n os vs w .em .table) ≡ length (w .em .table)
+    unfolding stage emitted
+    stage-table [] w = refl
+    stage-table (v ∷ vs) w = ap length (bound-table (v ∷ vs) (emitted up gates δ n os w)) ∙ emit-length up gates δ n os (w .em)
+
+    pub stage-values : (vs : List ℕ) (w : Work S) → 3 * (w .count + missing (values w) vs) ≤ length (w .bounds) → values (stage up gates puts δ n os vs w) ≡ learn (values w) vs
+    unfolding stage emitted
+    stage-values [] w room = refl
+    stage-values (v ∷ vs) w room = bound-values (v ∷ vs) (emitted up gates δ n os w) room
+
+    pub stage-records : (vs : List ℕ) (w : Work S) → 3 * (w .count + missing (values w) vs) ≤ length (w .bounds) → stage up gates puts δ n os vs w .count ≡ w .count + missing (values w) vs
+    unfolding stage emitted
+    stage-records [] w room = omega arith
+    stage-records (v ∷ vs) w room = bound-count (v ∷ vs) (emitted up gates δ n os w) room
+
+-- a number is drawn for each new record, and none else
+module _ {S : Type 0} (puts : List (List Lit) → S → S) (δ : Dir) (os : List ℕ) where
+  one-draws : (v : ℕ) (w : Work S) → compared puts δ os v (recorded plus1 v w) .em .next + w .count ≡ w .em .next + compared puts δ os v (recorded plus1 v w) .count
+  unfolding recorded compared
+  one-draws v w = by-test (λ (x : Work S). x .em .next + w .count ≡ w .em .next + x .count) (markedIn δ (noted v (recorded plus1 v w))) (λ q. same) (λ q. same)
+    where
+      same : recorded plus1 v w .em .next + w .count ≡ w .em .next + recorded plus1 v w .count
+      same = by-test (λ (x : Work S). x .em .next + w .count ≡ w .em .next + x .count) (ltb (find (w .bounds) (w .count) v) (w .count)) (λ q. refl) (λ q. omega arith)
+
+  pub bound-draws : (vs : List ℕ) (w : Work S) → boundAll plus1 puts δ os vs w .em .next + w .count ≡ w .em .next + boundAll plus1 puts δ os vs w .count
+  bound-draws [] w = refl
+  bound-draws (v ∷ vs) w = omega (arith, bound-draws vs (compared puts δ os v (recorded plus1 v w)), one-draws v w)
+
+  pub bound-next : (vs : List ℕ) (w : Work S) → 3 * (w .count + missing (values w) vs) ≤ length (w .bounds) → boundAll plus1 puts δ os vs w .em .next ≡ w .em .next + missing (values w) vs
+  bound-next vs w room = omega (arith, bound-draws vs w, bound-count plus1 puts δ os vs w room)
+
+-- both directions together
+module _ {S : Type 0} (up : ℕ → ℕ) (gates puts : List (List Lit) → S → S) (n : ℕ) (os ups downs : List ℕ) (w : Work S) (room : 3 * (w .count + missing (values w) (ups ++ downs)) ≤ length (w .bounds)) where
+  pub stages-records : (stages up gates puts n os ups downs w .count ≡ w .count + missing (values w) (ups ++ downs)) × (values (stages up gates puts n os ups downs w) ≡ learn (values w) (ups ++ downs))
+  stages-records =
+      let x : Work S = stage up gates puts iff n os ups w in
+      let m : missing (values w) (ups ++ downs) ≡ missing (values w) ups + missing (learn (values w) ups) downs = missing-append (values w) ups downs in
+      let e : values x ≡ learn (values w) ups = stage-values up puts iff os gates n ups w (omega arith) in
+      let d : missing (values x) downs ≡ missing (learn (values w) ups) downs = ap (λ (us : List ℕ). missing us downs) e in
+      let c : x .count ≡ w .count + missing (values w) ups = stage-records up puts iff os gates n ups w (omega arith) in
+      let r : 3 * (x .count + missing (values x) downs) ≤ length (x .bounds) = omega (arith, stage-length up puts iff os gates n ups w) in
+      (omega (arith, stage-records up puts onlyif os gates n downs x r), stage-values up puts onlyif os gates n downs x r ∙ ap (λ (us : List ℕ). learn us downs) e ∙ sym (learn-append (values w) ups downs))
+
+-- a build leaves the table of records, and drops the records where terms are pending
+pub built-bounds : (m : Machine) → built m .bounds ≡ m .bounds
+unfolding built
+built-bounds m = go (pending (m .party)) m _ refl
+  where
+    go : (ps : List Pending) (m x : Machine) → x .bounds ≡ m .bounds → ifPending ps m x .bounds ≡ m .bounds
+    go [] m x h = refl
+    go (p ∷ ps) m x h = h
+
+pub built-known : (m : Machine) → known m ≡ valuesFrom (built m .bounds) 0 (built m .party .bounds)
+unfolding built known
+built-known m = go (pending (m .party)) m _ refl
+  where
+    go : (ps : List Pending) (m x : Machine) → x .party .bounds ≡ 0
+        → ifPending ps (valuesFrom (m .bounds) 0 (m .party .bounds)) [] ≡ valuesFrom (ifPending ps m x .bounds) 0 (ifPending ps m x .party .bounds)
+    go [] m x h = refl
+    go (p ∷ ps) m x h = rw h
+
+-- the records that an encoding asks for are those after its work
+pub work-records : (ups downs : List ℕ) (m : Machine) → 3 * recordsAfter ups downs m ≤ length (m .bounds) → work ups downs (built m) .count ≡ recordsAfter ups downs m
+unfolding work recordsAfter
+work-records ups downs m h =
+    let b : Machine = built m in
+    let w : Work Clauses = wk (em (b .nodes) (b .next) []) (b .bounds) (b .party .bounds) in
+    let e : length (known m) + missing (known m) (ups ++ downs) ≡ w .count + missing (values w) (ups ++ downs) = rw (built-known m, length-values (b .bounds) 0 (b .party .bounds)) in
+    stages-records plus1 follow follow (b .party .nodes) (present (b .party .outputs)) ups downs w (omega (arith, ap length (built-bounds m))) .0 ∙ sym e
