@@ -10,7 +10,7 @@ use Prim.Native.Nat.{ℕ, zero, suc, _+_, _*_, _^_, _≤_, _<_, min}
 use native.Mathlib.Omega.{arith}
 use borrow.Author.Tests.{lt-ltb, le-ltb, eq-eqb, ne-eqb}
 use lib.Dec.{eqb, ltb, leb·suc-suc}
-use lib.ListN.{length, getD, set, length-append, length-set}
+use lib.ListN.{length, getD, take, set, length-append, length-set}
 use lib.Seq.{sets, length-sets, getD-set-same, getD-set-other}
 use Rattle.model.specs.Limits.{mostFill}
 use Rattle.model.specs.Logic.{Lit, pL}
@@ -26,7 +26,7 @@ use Rattle.model.specs.Calls.{built, known, recordsAfter, work}
 use Rattle.model.proofs.Buffer.{sets-append, layAll-fits}
 use Rattle.model.proofs.Literals.{by-test}
 use Rattle.model.proofs.Emission.{em, onSink, emit-step, emit-map, emit-length, flat-append, Fits, put-fits, bump-rises, bump-plain}
-use Rattle.model.proofs.Frame.{Counts, count, tally, tally-batch, tally-each, count-append, count-none}
+use Rattle.model.proofs.Frame.{Counts, count, tally, tally-batch, tally-each, count-append, count-none, count-shape, count-same, comparator-shape, inUse, emit-inUse}
 
 -- an encoding's state
 abbrev pub wk : {S : Type 0} → Em S → List ℕ → ℕ → Work S
@@ -35,6 +35,10 @@ wk e bs k = record { em = e; bounds = bs; count = k }
 -- the same with what became of the clauses mapped
 abbrev pub onWork : {S S′ : Type 0} → (S → S′) → Work S → Work S′
 onWork f w = wk (onSink f (w .em)) (w .bounds) (w .count)
+
+-- both directions of an encoding: up, then down
+abbrev pub stages : {S : Type 0} → (ℕ → ℕ) → (gates puts : List (List Lit) → S → S) → ℕ → (os ups downs : List ℕ) → Work S → Work S
+stages up gates puts n os ups downs w = stage up gates puts onlyif n os downs (stage up gates puts iff n os ups w)
 
 -- what the steps do: a record is appended, or a record is marked and its comparator's clauses go where `put` puts them
 abbrev appended : {S : Type 0} → (ℕ → ℕ) → ℕ → Work S → Work S
@@ -101,6 +105,9 @@ module _ {S S′ : Type 0} (f : S → S′) (Low : ℕ → S → Type 0) where
         stage-step δ n os [] = none
         stage-step δ n os (v ∷ vs) = after (emitted-step δ n os) (bound-step δ os (v ∷ vs))
 
+        pub stages-step : (n : ℕ) (os ups downs : List ℕ) → Stride f Low (stages up gates puts n os ups downs) (stages up′ gates′ puts′ n os ups downs)
+        stages-step n os ups downs = after (stage-step iff n os ups) (stage-step onlyif n os downs)
+
 -- ---- what the induction gives
 -- any map of what becomes of the clauses, where it goes with both ways to put them
 module _ {S S′ : Type 0} (f : S → S′) (up : ℕ → ℕ) (puts : List (List Lit) → S → S) (puts′ : List (List Lit) → S′ → S′)
@@ -143,6 +150,11 @@ module _ {S : Type 0} (limit : ℕ) (up up′ : ℕ → ℕ) (rises : (n : ℕ) 
   stage-agrees gates δ n os vs w h =
       stage-step (λ s. s) (λ n s. n < limit) up up′ (λ n s. counts-below n) puts puts (λ cs n s l. (l, refl)) gates gates (λ cs n s l. (l, refl)) δ n os vs .at w h .1
 
+  pub stages-agrees : (gates : List (List Lit) → S → S) (n : ℕ) (os ups downs : List ℕ) (w : Work S) → stages up gates puts n os ups downs w .em .next < limit
+      → stages up gates puts n os ups downs w ≡ stages up′ gates puts n os ups downs w
+  stages-agrees gates n os ups downs w h =
+      stages-step (λ s. s) (λ n s. n < limit) up up′ (λ n s. counts-below n) puts puts (λ cs n s l. (l, refl)) gates gates (λ cs n s l. (l, refl)) n os ups downs .at w h .1
+
 -- so the source's word counts as ℕ does where either's next number stays below its top
 module _ {S : Type 0} (puts : List (List Lit) → S → S) where
   pub bound-plain : (δ : Dir) (os vs : List ℕ) (w : Work S) → (boundAll bump puts δ os vs w .em .next < 0xffff_ffff) ⊎ (boundAll plus1 puts δ os vs w .em .next < 0xffff_ffff)
@@ -156,6 +168,12 @@ module _ {S : Type 0} (puts : List (List Lit) → S → S) where
   stage-plain gates δ n os vs w (inl h) = stage-agrees 0xffff_ffff bump plus1 bump-rises bump-plain puts gates δ n os vs w h
   stage-plain gates δ n os vs w (inr h) = sym (stage-agrees 0xffff_ffff plus1 bump (λ n. omega arith) (λ n k. sym (bump-plain n k)) puts gates δ n os vs w h)
 
+  pub stages-plain : (gates : List (List Lit) → S → S) (n : ℕ) (os ups downs : List ℕ) (w : Work S)
+      → (stages bump gates puts n os ups downs w .em .next < 0xffff_ffff) ⊎ (stages plus1 gates puts n os ups downs w .em .next < 0xffff_ffff)
+      → stages bump gates puts n os ups downs w ≡ stages plus1 gates puts n os ups downs w
+  stages-plain gates n os ups downs w (inl h) = stages-agrees 0xffff_ffff bump plus1 bump-rises bump-plain puts gates n os ups downs w h
+  stages-plain gates n os ups downs w (inr h) = sym (stages-agrees 0xffff_ffff plus1 bump (λ n. omega arith) (λ n k. sym (bump-plain n k)) puts gates n os ups downs w h)
+
 -- clauses in a list follow those before them; `flat-append` and `length-append` then add up their words and their number
 pub stage-follows : (up : ℕ → ℕ) (δ : Dir) (n : ℕ) (os vs : List ℕ) (w : Work Clauses)
     → stage up follow follow δ n os vs w ≡ onWork (λ cs. w .em .sink ++ cs) (stage up follow follow δ n os vs (onWork (λ cs. []) w))
@@ -165,18 +183,6 @@ stage-follows up δ n os vs w =
   where
     joins : (cs ds : Clauses) → w .em .sink ++ (ds ++ cs) ≡ w .em .sink ++ ds ++ cs
     joins cs ds = sym (append-assoc (w .em .sink) ds cs)
-
--- ---- counting: cut to what a word holds, the counts of a run are those of the clauses it lists
-module _ (up : ℕ → ℕ) (δ : Dir) (n : ℕ) (os vs : List ℕ) where
-  pub stage-tally : (w : Work Sink) → onWork (λ s. count [] (tally s)) (stage up putBatch putEach δ n os vs w) ≡ stage up count count δ n os vs (onWork (λ s. count [] (tally s)) w)
-  stage-tally w = stage-map (λ s. count [] (tally s)) up putEach count tally-each putBatch count (λ cs s. ap (count []) (tally-batch cs s) ∙ count-none cs (tally s)) δ n os vs w
-
-  pub stage-count : (c : Counts) (w : Work Clauses) → onWork (λ cs. count cs c) (stage up follow follow δ n os vs w) ≡ stage up count count δ n os vs (onWork (λ cs. count cs c) w)
-  stage-count c w = stage-map (λ cs. count cs c) up follow count (λ cs ds. count-append ds cs c) follow count (λ cs ds. count-append ds cs c) δ n os vs w
-
--- both directions of an encoding: up, then down
-abbrev pub stages : {S : Type 0} → (ℕ → ℕ) → (gates puts : List (List Lit) → S → S) → ℕ → (os ups downs : List ℕ) → Work S → Work S
-stages up gates puts n os ups downs w = stage up gates puts onlyif n os downs (stage up gates puts iff n os ups w)
 
 -- ---- where all fits: the clauses stand from the fill on, and the numbers are sums
 abbrev pub laid : Sink → List (List Lit) → Sink
@@ -235,21 +241,20 @@ module _ (s : Sink) (k : s .clauses ≤ s .buffer .fill) where
       let fits : Fits (laid s ds) cs = rw (length-sets (s .buffer .words) (s .buffer .fill) (flat ds)) (omega arith, l .0 .1) in
       (((omega arith, l .0 .1), l .1), laid-more s ds cs ∙ sym (lays cs (laid s ds) (omega (arith, flat-long ds)) fits))
 
-  stage-low : (δ : Dir) (n : ℕ) (os vs : List ℕ) → Stride (laid s) (Low s) (stage plus1 follow follow δ n os vs) (stage bump putBatch putEach δ n os vs)
-  stage-low = stage-step (laid s) (Low s) plus1 bump (low-counts s) follow putEach (low-puts putEach each-laid) follow putBatch (low-puts putBatch batch-laid)
-
   pub bound-fits : (δ : Dir) (os vs : List ℕ) (w : Work Clauses) → Fits s (boundAll plus1 follow δ os vs w .em .sink) → boundAll plus1 follow δ os vs w .em .next < 0xffff_ffff
       → boundAll bump putEach δ os vs (onWork (laid s) w) ≡ onWork (laid s) (boundAll plus1 follow δ os vs w)
   bound-fits δ os vs w h l = sym (bound-step (laid s) (Low s) plus1 bump (low-counts s) follow putEach (low-puts putEach each-laid) δ os vs .at w (h, l) .1)
 
   pub stage-fits : (δ : Dir) (n : ℕ) (os vs : List ℕ) (w : Work Clauses) → Fits s (stage plus1 follow follow δ n os vs w .em .sink) → stage plus1 follow follow δ n os vs w .em .next < 0xffff_ffff
       → stage bump putBatch putEach δ n os vs (onWork (laid s) w) ≡ onWork (laid s) (stage plus1 follow follow δ n os vs w)
-  stage-fits δ n os vs w h l = sym (stage-low δ n os vs .at w (h, l) .1)
+  stage-fits δ n os vs w h l =
+      sym (stage-step (laid s) (Low s) plus1 bump (low-counts s) follow putEach (low-puts putEach each-laid) follow putBatch (low-puts putBatch batch-laid) δ n os vs .at w (h, l) .1)
 
   pub stages-fits : (n : ℕ) (os ups downs : List ℕ) (w : Work Clauses) → Fits s (stages plus1 follow follow n os ups downs w .em .sink)
       → stages plus1 follow follow n os ups downs w .em .next < 0xffff_ffff
       → stages bump putBatch putEach n os ups downs (onWork (laid s) w) ≡ onWork (laid s) (stages plus1 follow follow n os ups downs w)
-  stages-fits n os ups downs w h l = sym (after (laid s) (Low s) (stage-low iff n os ups) (stage-low onlyif n os downs) .at w (h, l) .1)
+  stages-fits n os ups downs w h l =
+      sym (stages-step (laid s) (Low s) plus1 bump (low-counts s) follow putEach (low-puts putEach each-laid) follow putBatch (low-puts putBatch batch-laid) n os ups downs .at w (h, l) .1)
 
   -- the whole of an encoding's work, on the lent tables
   pub work-fits : (ups downs : List ℕ) (b : Machine) → Fits s (work ups downs b .em .sink) → work ups downs b .em .next < 0xffff_ffff
@@ -541,3 +546,64 @@ work-records ups downs m h =
     let w : Work Clauses = wk (em (b .nodes) (b .next) []) (b .bounds) (b .party .bounds) in
     let e : length (known m) + missing (known m) (ups ++ downs) ≡ w .count + missing (values w) (ups ++ downs) = rw (built-known m, length-values (b .bounds) 0 (b .party .bounds)) in
     stages-records plus1 follow follow (b .party .nodes) (present (b .party .outputs)) ups downs w (omega (arith, ap length (built-bounds m))) .0 ∙ sym e
+
+-- ---- the dry run: on a scratch table that holds the records in use, with any buffer, an encoding counts what the model's clauses come to
+-- the same state with another node table
+abbrev onTable : {S : Type 0} → List ℕ → Work S → Work S
+onTable t w = wk (em t (w .em .next) (w .em .sink)) (w .bounds) (w .count)
+
+-- what is in use of a state, as `inUse`
+abbrev pub workInUse : {S C : Type 0} → (S → C) → ℕ → Work S → Work C
+workInUse f N w = wk (inUse f N (w .em)) (w .bounds) (w .count)
+
+module _ (up : ℕ → ℕ) (δ : Dir) (os : List ℕ) where
+  one-table : (t : List ℕ) (v : ℕ) (w : Work Counts) → compared count δ os v (recorded up v (onTable t w)) ≡ onTable t (compared count δ os v (recorded up v w))
+  unfolding recorded compared
+  one-table t v w = go (ltb (find (w .bounds) (w .count) v) (w .count))
+    where
+      marks : (b : Bool) (x : Work Counts) → cond b (onTable t x) (written δ v (count (compares δ os v (onTable t x))) (onTable t x)) ≡ onTable t (cond b x (written δ v (count (compares δ os v x)) x))
+      marks true x = refl
+      marks false x = ap (λ (c : Counts). written δ v (λ y. c) (onTable t x)) (count-shape _ _ (x .em .sink) (comparator-shape t (x .em .table) δ os v _ _))
+
+      go : (b : Bool) → compared count δ os v (cond b (onTable t w) (appended up v (onTable t w))) ≡ onTable t (compared count δ os v (cond b w (appended up v w)))
+      go true = marks (markedIn δ (noted v w)) w
+      go false = marks (markedIn δ (noted v (appended up v w))) (appended up v w)
+
+  bound-onTable : (t : List ℕ) (vs : List ℕ) (w : Work Counts) → boundAll up count δ os vs (onTable t w) ≡ onTable t (boundAll up count δ os vs w)
+  bound-onTable t [] w = refl
+  bound-onTable t (v ∷ vs) w = ap (boundAll up count δ os vs) (one-table t v w) ∙ bound-onTable t vs (compared count δ os v (recorded up v w))
+
+  count-inUse : (N : ℕ) (vs : List ℕ) (w : Work Counts) → 8 * N ≤ length (w .em .table) → workInUse (λ c. c) N (stage up count count δ N os vs w) ≡ stage up count count δ N os vs (workInUse (λ c. c) N w)
+  unfolding stage emitted
+  count-inUse N [] w h = refl
+  count-inUse N (v ∷ vs) w h =
+      let x : Work Counts = emitted up count δ N os w in
+      ap (λ (t : List ℕ). onTable (take (8 * N) t) (boundAll up count δ os (v ∷ vs) x)) (bound-table up count δ os (v ∷ vs) x)
+      ∙ sym (bound-onTable (take (8 * N) (x .em .table)) (v ∷ vs) x)
+      ∙ ap (λ (e : Em Counts). boundAll up count δ os (v ∷ vs) (wk e (w .bounds) (w .count))) (emit-inUse (λ c. c) up count count (λ cs c. refl) count-same δ N os (w .em) h)
+
+-- what counts as `count` does
+module _ {S : Type 0} (f : S → Counts) (up : ℕ → ℕ) (gates puts : List (List Lit) → S → S) (batch : (cs : List (List Lit)) (s : S) → f (gates cs s) ≡ count cs (f s))
+    (each : (cs : List (List Lit)) (s : S) → f (puts cs s) ≡ count cs (f s)) (N : ℕ) (os : List ℕ) where
+  pub stage-inUse : (δ : Dir) (vs : List ℕ) (w : Work S) → 8 * N ≤ length (w .em .table) → workInUse f N (stage up gates puts δ N os vs w) ≡ stage up count count δ N os vs (workInUse f N w)
+  stage-inUse δ vs w h = ap (workInUse (λ c. c) N) (stage-map f up puts count each gates count batch δ N os vs w) ∙ count-inUse up δ os N vs (onWork f w) h
+
+  pub stages-inUse : (ups downs : List ℕ) (w : Work S) → 8 * N ≤ length (w .em .table) → workInUse f N (stages up gates puts N os ups downs w) ≡ stages up count count N os ups downs (workInUse f N w)
+  stages-inUse ups downs w h =
+      let x : Work S = stage up gates puts iff N os ups w in
+      stage-inUse onlyif downs x (rw (stage-table up puts iff os gates N ups w) h) ∙ ap (stage up count count onlyif N os downs) (stage-inUse iff ups w h)
+
+-- a sink's counts, cut to what a word holds, and those of clauses in a list behind some counts
+abbrev pub cut : Sink → Counts
+cut s = count [] (tally s)
+
+cut-batch : (cs : List (List Lit)) (s : Sink) → cut (putBatch cs s) ≡ count cs (cut s)
+cut-batch cs s = ap (count []) (tally-batch cs s) ∙ count-none cs (tally s)
+
+module _ (N : ℕ) (os ups downs : List ℕ) (t t′ : List ℕ) (h : 8 * N ≤ length t) (h′ : 8 * N ≤ length t′) (e : take (8 * N) t′ ≡ take (8 * N) t) (s : Sink) where
+  pub dry-stages : (up : ℕ → ℕ) (x : ℕ) (bs : List ℕ) (k : ℕ)
+      → workInUse cut N (stages up putBatch putEach N os ups downs (wk (em t′ x s) bs k)) ≡ workInUse (λ cs. count cs (tally s)) N (stages up follow follow N os ups downs (wk (em t x []) bs k))
+  dry-stages up x bs k =
+      stages-inUse cut up putBatch putEach cut-batch tally-each N os ups downs (wk (em t′ x s) bs k) h′
+      ∙ ap (λ (u : List ℕ). stages up count count N os ups downs (wk (em u x (cut s)) bs k)) e
+      ∙ sym (stages-inUse (λ cs. count cs (tally s)) up follow follow (λ cs ds. count-append ds cs (tally s)) (λ cs ds. count-append ds cs (tally s)) N os ups downs (wk (em t x []) bs k) h)

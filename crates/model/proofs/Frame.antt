@@ -4,18 +4,20 @@
 use mathlib.Core.Path.{_≡_, refl, sym, ap, _∙_}
 use mathlib.Core.Bool.{Bool, true, false, cond, _&&_}
 use mathlib.Core.List.{List, [], _∷_, _++_, append-nil, append-assoc}
-use Prim.Native.Nat.{ℕ, zero, suc, _+_, _*_, _/_, _%_, _≤_, _<_, min}
+use mathlib.Core.Option.{Option, none, some}
+use Prim.Native.Nat.{ℕ, zero, suc, _+_, _*_, _/_, _%_, _^_, _≤_, _<_, min}
 use native.Mathlib.Omega.{arith}
 use borrow.Author.Tests.{lt-ltb, ltb-true, eqb-true}
 use lib.Dec.{eqb, ltb}
 use lib.ListN.{length, getD, take, drop, set, length-append, length-set, List·getD-append, take-append-drop}
 use lib.Seq.{sets, length-sets, set-append-left, sets-eq, length-take-le, take-at}
 use Rattle.model.specs.Limits.{mostFill}
-use Rattle.model.specs.Logic.{Lit}
+use Rattle.model.specs.Logic.{Lit, neg}
 use Rattle.model.specs.Words.{clauseWords, flat, Buffer, raised, lay, layAll, Sink, putBatch, putEach}
 use Rattle.model.specs.Signs.{Kind, half, full, Bit, sum, carry, Dir, iff, onlyif, signs, signed, rowAt, rowsAt, gate}
-use Rattle.model.specs.Nodes.{Node, kindOf, nodeWords, inTable, putNode, putNodes, nodeAt, bitPlace, var, setVar, marked, setMark}
+use Rattle.model.specs.Nodes.{Node, kindOf, nodeWords, inTable, putNode, putNodes, nodeAt, bitPlace, var, setVar, marked, setMark, litAt}
 use Rattle.model.specs.Emit.{Em, gateAt, childDir, children, takeVar, mark, write, node, byKind, emit, emitAll, reserveNode, reserve, reserveAll}
+use Rattle.model.specs.Compare.{outLit, outLits, ahead, above, higher, begins, clauseOf, compareRows, comparator}
 use Rattle.model.proofs.Buffer.{raised-twice, layAll-fill}
 use Rattle.model.proofs.Emission.{em, onSink, reserve-map, emit-map, reserve-length, emit-length, flat-append}
 
@@ -61,8 +63,8 @@ record Framed {S : Type 0} (r : List ℕ) (N : ℕ) (g : Em S → Em S) : Type 0
   at : (e : Em S) → 8 * N ≤ length (e .table) → (8 * N ≤ length (g e .table)) × (g (grown r e) ≡ grown r (g e))
 
 module _ {S : Type 0} (r : List ℕ) (N : ℕ) where
-  none : Framed {S = S} r N (λ e. e)
-  none = record { at = λ e h. (h, refl) }
+  still : Framed {S = S} r N (λ e. e)
+  still = record { at = λ e h. (h, refl) }
 
   after : {g h : Em S → Em S} → Framed r N g → Framed r N h → Framed r N (λ e. h (g e))
   after {g} {h} p q = record { at = λ e l. let a = p .at e l in let b = q .at (g e) (a .0) in (b .0, ap h (a .1) ∙ b .1) }
@@ -77,7 +79,7 @@ module _ {S : Type 0} (r : List ℕ) (N : ℕ) where
   module _ (up : ℕ → ℕ) where
     take-framed : (β : Bit) (n : ℕ) → n < N → Framed {S = S} r N (takeVar up β n)
     unfolding takeVar setVar
-    take-framed β n b = record { at = λ e h. rw (var-frame r (e .table) N n b h β) (choice (eqb (var (e .table) β n) 0) (λ q. taken) none .at e h) }
+    take-framed β n b = record { at = λ e h. rw (var-frame r (e .table) N n b h β) (choice (eqb (var (e .table) β n) 0) (λ q. taken) still .at e h) }
       where
         taken : Framed {S = S} r N (λ e. em (setVar (e .table) β n (e .next)) (up (e .next)) (e .sink))
         taken = record {
@@ -91,22 +93,22 @@ module _ {S : Type 0} (r : List ℕ) (N : ℕ) where
           let t : List ℕ = e .table in
           rw (table-frame r t N n b h, var-frame r t N n b h sum, var-frame r t N n b h carry, node-frame r t N n b h)
           (choice (inTable t n)
-          (λ q. choice (ltb 0 (var t sum n) && ltb 0 (var t carry n)) (λ q. none)
+          (λ q. choice (ltb 0 (var t sum n) && ltb 0 (var t carry n)) (λ q. still)
           (after (after (take-framed sum n b) (take-framed carry n b)) (children-framed g (nodeAt t n))))
-          none .at e h);
+          still .at e h);
     }
 
     reserve-one : (l w : ℕ) → l ≤ N → Framed {S = S} r N (reserve up l w)
     unfolding reserve
-    reserve-one zero w b = none
+    reserve-one zero w b = still
     reserve-one (suc l) w b =
         choice (ltb (w / 4) l) (λ q. reserve-one l w (omega arith))
         (choice (eqb (w / 4) l)
-        (λ q. choice (ltb (w % 4) 2) (λ q. none) (reserved-framed (w / 4) (omega (arith, eqb-true (w / 4) l q)) (λ v. reserve-one l v (omega arith))))
-        none)
+        (λ q. choice (ltb (w % 4) 2) (λ q. still) (reserved-framed (w / 4) (omega (arith, eqb-true (w / 4) l q)) (λ v. reserve-one l v (omega arith))))
+        still)
 
     reserve-framed : (l : ℕ) (ws : List ℕ) → l ≤ N → Framed {S = S} r N (reserveAll up l ws)
-    reserve-framed l [] b = none
+    reserve-framed l [] b = still
     reserve-framed l (w ∷ ws) b = after (reserve-one l w b) (reserve-framed l ws b)
 
     -- what becomes of a gate's clauses is the same at other literals
@@ -131,27 +133,27 @@ module _ {S : Type 0} (r : List ℕ) (N : ℕ) where
             let t : List ℕ = e .table in
             rw (table-frame r t N n b h, marked-frame r t N n b h β δ, node-frame r t N n b h)
             (choice (inTable t n)
-            (λ q. choice (marked t β δ n) (λ q. none)
+            (λ q. choice (marked t β δ n) (λ q. still)
             (after (after (after (take-framed β n b) (mark-framed β δ n b)) (children-framed g (nodeAt t n))) (write-framed β δ n b)))
-            none .at e h);
+            still .at e h);
       }
 
       kind-framed : (k : ℕ) (δ : Dir) (n : ℕ) → n < N → {below : Dir → ℕ → Em S → Em S} → ((δ′ : Dir) (w : ℕ) → Framed r N (below δ′ w)) → Framed r N (byKind up put k δ n below)
       unfolding byKind
-      kind-framed zero δ n b g = none
-      kind-framed (suc zero) δ n b g = none
+      kind-framed zero δ n b g = still
+      kind-framed (suc zero) δ n b g = still
       kind-framed (suc (suc zero)) δ n b g = node-framed sum δ n b (g (childDir sum δ))
       kind-framed (suc (suc (suc k))) δ n b g = node-framed carry δ n b (g (childDir carry δ))
 
       emit-one : (δ : Dir) (l w : ℕ) → l ≤ N → Framed r N (emit up put δ l w)
       unfolding emit
-      emit-one δ zero w b = none
+      emit-one δ zero w b = still
       emit-one δ (suc l) w b =
           choice (ltb (w / 4) l) (λ q. emit-one δ l w (omega arith))
-          (choice (eqb (w / 4) l) (λ q. kind-framed (w % 4) δ (w / 4) (omega (arith, eqb-true (w / 4) l q)) (λ δ′ v. emit-one δ′ l v (omega arith))) none)
+          (choice (eqb (w / 4) l) (λ q. kind-framed (w % 4) δ (w / 4) (omega (arith, eqb-true (w / 4) l q)) (λ δ′ v. emit-one δ′ l v (omega arith))) still)
 
       emit-framed : (δ : Dir) (l : ℕ) (ws : List ℕ) → l ≤ N → Framed r N (emitAll up put δ l ws)
-      emit-framed δ l [] b = none
+      emit-framed δ l [] b = still
       emit-framed δ l (w ∷ ws) b = after (emit-one δ l w b) (emit-framed δ l ws b)
 
 -- ---- the laws: words behind the nodes below the limit stay, and change nothing
@@ -252,22 +254,125 @@ pub tally-each : (cs : List (List Lit)) (s : Sink) → count [] (tally (putEach 
 unfolding count putEach flat
 tally-each cs s = let e : raised (raised (s .clauses) (length cs)) 0 ≡ raised (raised (s .clauses) 0) (length cs) = cut (s .clauses) (length cs) in rw (layAll-cut cs (s .buffer), e)
 
--- a gate's words and clauses are as many at any literals
-pub gate-sizes : (κ : Kind) (β : Bit) (δ : Dir) (a b c o a′ b′ c′ o′ : Lit)
-    → (length (flat (gate κ β δ a b c o)) ≡ length (flat (gate κ β δ a′ b′ c′ o′))) × (length (gate κ β δ a b c o) ≡ length (gate κ β δ a′ b′ c′ o′))
-unfolding gate signs rowsAt rowAt signed flat clauseWords
-gate-sizes half sum iff a b c o a′ b′ c′ o′ = (refl, refl)
-gate-sizes half sum onlyif a b c o a′ b′ c′ o′ = (refl, refl)
-gate-sizes half carry iff a b c o a′ b′ c′ o′ = (refl, refl)
-gate-sizes half carry onlyif a b c o a′ b′ c′ o′ = (refl, refl)
-gate-sizes full sum iff a b c o a′ b′ c′ o′ = (refl, refl)
-gate-sizes full sum onlyif a b c o a′ b′ c′ o′ = (refl, refl)
-gate-sizes full carry iff a b c o a′ b′ c′ o′ = (refl, refl)
-gate-sizes full carry onlyif a b c o a′ b′ c′ o′ = (refl, refl)
+-- ---- the shape of clauses: how many literals each has; the counts rest on it alone
+abbrev pub shape : List (List Lit) → List ℕ
+shape [] = []
+shape (c ∷ cs) = length c ∷ shape cs
+
+abbrev total : List ℕ → ℕ
+total [] = 0
+total (k ∷ ks) = suc k + total ks
+
+clause-length : (c : List Lit) → length (clauseWords c) ≡ suc (length c)
+unfolding clauseWords
+clause-length [] = refl
+clause-length (l ∷ ls) = ap suc (clause-length ls)
+
+flat-total : (cs : List (List Lit)) → length (flat cs) ≡ total (shape cs)
+unfolding flat
+flat-total [] = refl
+flat-total (c ∷ cs) = omega (arith, length-append (clauseWords c) (flat cs), clause-length c, flat-total cs)
+
+length-shape : (cs : List (List Lit)) → length cs ≡ length (shape cs)
+length-shape [] = refl
+length-shape (c ∷ cs) = ap suc (length-shape cs)
+
+pub shape-words : (cs ds : List (List Lit)) → shape cs ≡ shape ds → length (flat cs) ≡ length (flat ds)
+shape-words cs ds e = flat-total cs ∙ ap total e ∙ sym (flat-total ds)
+
+pub shape-clauses : (cs ds : List (List Lit)) → shape cs ≡ shape ds → length cs ≡ length ds
+shape-clauses cs ds e = length-shape cs ∙ ap length e ∙ sym (length-shape ds)
+
+pub count-shape : (cs ds : List (List Lit)) (s : Counts) → shape cs ≡ shape ds → count cs s ≡ count ds s
+unfolding count
+count-shape cs ds s e = rw (shape-words cs ds e, shape-clauses cs ds e)
+
+-- a gate has its shape at any literals
+pub gate-shape : (κ : Kind) (β : Bit) (δ : Dir) (a b c o a′ b′ c′ o′ : Lit) → shape (gate κ β δ a b c o) ≡ shape (gate κ β δ a′ b′ c′ o′)
+unfolding gate signs rowsAt rowAt signed
+gate-shape half sum iff a b c o a′ b′ c′ o′ = refl
+gate-shape half sum onlyif a b c o a′ b′ c′ o′ = refl
+gate-shape half carry iff a b c o a′ b′ c′ o′ = refl
+gate-shape half carry onlyif a b c o a′ b′ c′ o′ = refl
+gate-shape full sum iff a b c o a′ b′ c′ o′ = refl
+gate-shape full sum onlyif a b c o a′ b′ c′ o′ = refl
+gate-shape full carry iff a b c o a′ b′ c′ o′ = refl
+gate-shape full carry onlyif a b c o a′ b′ c′ o′ = refl
 
 pub count-same : (κ : Kind) (β : Bit) (δ : Dir) (a b c o a′ b′ c′ o′ : Lit) (s : Counts) → count (gate κ β δ a b c o) s ≡ count (gate κ β δ a′ b′ c′ o′) s
-unfolding count
-count-same κ β δ a b c o a′ b′ c′ o′ s = let z = gate-sizes κ β δ a b c o a′ b′ c′ o′ in rw (z .0, z .1)
+count-same κ β δ a b c o a′ b′ c′ o′ s = count-shape (gate κ β δ a b c o) (gate κ β δ a′ b′ c′ o′) s (gate-shape κ β δ a b c o a′ b′ c′ o′)
+
+-- a comparator has its shape at any literals, where the same outputs are present
+abbrev size : Option (List Lit) → Option ℕ
+size none = none
+size (some ls) = some (length ls)
+
+abbrev longer : Option ℕ → Option ℕ
+longer none = none
+longer (some n) = some (suc n)
+
+abbrev shaped : Option ℕ → Option ℕ → List ℕ
+shaped none y = []
+shaped (some m) none = []
+shaped (some m) (some n) = (m + (n + 1)) ∷ []
+
+ahead-size : (l : Lit) (x : Option (List Lit)) → size (ahead l x) ≡ longer (size x)
+ahead-size l none = refl
+ahead-size l (some ls) = refl
+
+clause-shape : (x y : Option (List Lit)) (b : Lit) → shape (clauseOf x y b) ≡ shaped (size x) (size y)
+clause-shape none y b = refl
+clause-shape (some a) none b = refl
+clause-shape (some a) (some ls) b = rw (length-append a (ls ++ (b ∷ [])), length-append ls (b ∷ []))
+
+shape-append : (cs ds : List (List Lit)) → shape (cs ++ ds) ≡ shape cs ++ shape ds
+shape-append [] ds = refl
+shape-append (c ∷ cs) ds = ap (λ (ks : List ℕ). length c ∷ ks) (shape-append cs ds)
+
+module _ (t t′ : List ℕ) where
+  begins-size : (δ : Dir) (m w : ℕ) → size (begins δ m (outLit t w)) ≡ size (begins δ m (outLit t′ w))
+  begins-size iff zero zero = refl
+  begins-size iff zero (suc w) = refl
+  begins-size iff (suc m) w = refl
+  begins-size onlyif zero w = refl
+  begins-size onlyif (suc m) zero = refl
+  begins-size onlyif (suc m) (suc w) = refl
+
+  above-size : (m w : ℕ) (x y : Option (List Lit)) → size x ≡ size y → size (above m (outLit t w) x) ≡ size (above m (outLit t′ w) y)
+  above-size zero zero x y e = e
+  above-size zero (suc w) x y e = ahead-size (litAt t (suc w)) x ∙ ap longer e ∙ sym (ahead-size (litAt t′ (suc w)) y)
+  above-size (suc m) zero x y e = refl
+  above-size (suc m) (suc w) x y e = ahead-size (neg (litAt t (suc w))) x ∙ ap longer e ∙ sym (ahead-size (neg (litAt t′ (suc w))) y)
+
+  higher-size : (ws : List ℕ) (r : ℕ) → size (higher (outLits t ws) r) ≡ size (higher (outLits t′ ws) r)
+  higher-size [] r = refl
+  higher-size (w ∷ ws) r = above-size (r % 2) w (higher (outLits t ws) (r / 2)) (higher (outLits t′ ws) (r / 2)) (higher-size ws (r / 2))
+
+  rows-shape : (δ : Dir) (ws : List ℕ) (r : ℕ) (b b′ : Lit) → shape (compareRows δ (outLits t ws) r b) ≡ shape (compareRows δ (outLits t′ ws) r b′)
+  rows-shape δ [] r b b′ = refl
+  rows-shape δ (w ∷ ws) r b b′ =
+      rw (
+        shape-append (clauseOf (begins δ (r % 2) (outLit t w)) (higher (outLits t ws) (r / 2)) b) (compareRows δ (outLits t ws) (r / 2) b),
+        shape-append (clauseOf (begins δ (r % 2) (outLit t′ w)) (higher (outLits t′ ws) (r / 2)) b′) (compareRows δ (outLits t′ ws) (r / 2) b′),
+        clause-shape (begins δ (r % 2) (outLit t w)) (higher (outLits t ws) (r / 2)) b,
+        clause-shape (begins δ (r % 2) (outLit t′ w)) (higher (outLits t′ ws) (r / 2)) b′,
+        begins-size δ (r % 2) w,
+        higher-size ws (r / 2),
+        rows-shape δ ws (r / 2) b b′,
+      )
+
+  length-outs : (ws : List ℕ) → length (outLits t ws) ≡ length (outLits t′ ws)
+  length-outs [] = refl
+  length-outs (w ∷ ws) = ap suc (length-outs ws)
+
+  pub comparator-shape : (δ : Dir) (ws : List ℕ) (r : ℕ) (b b′ : Lit) → shape (comparator δ (outLits t ws) r b) ≡ shape (comparator δ (outLits t′ ws) r b′)
+  unfolding comparator
+  comparator-shape iff ws r b b′ = rows-shape iff ws r b b′
+  comparator-shape onlyif ws r b b′ = rw (length-outs ws) (go (eqb (r + 1) (2 ^ length (outLits t′ ws))) _ _ (rows-shape onlyif ws (r + 1) (neg b) (neg b′)))
+    where
+      go : (q : Bool) (cs ds : List (List Lit)) → shape cs ≡ shape ds → shape (cond q ((neg b ∷ []) ∷ []) cs) ≡ shape (cond q ((neg b′ ∷ []) ∷ []) ds)
+      go true cs ds e = refl
+      go false cs ds e = e
 
 -- ---- what is in use of a state: the records of N nodes, the next number, and the counts
 abbrev pub inUse : {S C : Type 0} → (S → C) → ℕ → Em S → Em C
