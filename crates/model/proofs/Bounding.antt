@@ -1,7 +1,7 @@
 -- The laws of the bound steps. One induction over recording, comparing and a whole direction, and what it gives: what becomes of the
 -- clauses may be mapped, two ways to count on agree below a limit, no number falls, and where all fits the run on the lent tables is the
--- model's. And of the records: which value is found where, how many there are after, and that the table keeps its length.
--- Assumes nothing.
+-- model's. Of the records: which value is found where, how many there are after, and that the table keeps its length. And of the dry run:
+-- on a scratch table it counts what the model's work comes to. Assumes nothing.
 use mathlib.Core.Path.{_≡_, refl, sym, ap, _∙_}
 use mathlib.Core.Logic.{_⊎_, inl, inr}
 use mathlib.Core.Bool.{Bool, true, false, cond, _||_, or-assoc, or-comm}
