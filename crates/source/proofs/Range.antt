@@ -1,32 +1,18 @@
--- A number in the range of variables and one outside it. Assumes nothing.
-use mathlib.Core.Path.{_≡_}
-use mathlib.Core.Bool.{true, false}
+-- What is drawn at 0, within the range of variables, and above it. Assumes nothing.
 use Prim.Native.Nat.{ℕ, _≤_, _<_, _+_}
-use borrow.Author.Tests.{le-leb, lt-leb}
-use Rattle.model.specs.Limits.{greatest, inRange}
+use Rattle.literal.proofs.Signed.{range-low, range-in, range-high}
+use Rattle.model.specs.Limits.{greatest}
 use Rattle.model.specs.Nodes.{drawnNumber, drawnNext}
 use Rattle.source.specs.Draw.{Draws}
 
-inside : (n : ℕ) → 1 ≤ n → n ≤ greatest → inRange n ≡ true
-unfolding inRange
-inside n h k = rw (le-leb 1 n h, le-leb n greatest k)
-
-below : (n : ℕ) → n < 1 → inRange n ≡ false
-unfolding inRange
-below n h = rw (lt-leb 1 n h)
-
-above : (n : ℕ) → 1 ≤ n → greatest < n → inRange n ≡ false
-unfolding inRange
-above n h k = rw (le-leb 1 n h, lt-leb n greatest k)
-
 pub draws-none : (n : ℕ) → n < 1 → Draws n 0 n
 unfolding drawnNumber drawnNext
-draws-none n h = record { given = rw (below n h); stands = rw (below n h) }
+draws-none n h = record { given = rw (range-low n h); stands = rw (range-low n h) }
 
 pub draws-one : (n : ℕ) → 1 ≤ n → n ≤ greatest → Draws n n (n + 1)
 unfolding drawnNumber drawnNext
-draws-one n h k = record { given = rw (inside n h k); stands = rw (inside n h k) }
+draws-one n h k = record { given = rw (range-in n h k); stands = rw (range-in n h k) }
 
 pub draws-spent : (n : ℕ) → 1 ≤ n → greatest < n → Draws n 0 n
 unfolding drawnNumber drawnNext
-draws-spent n h k = record { given = rw (above n h k); stands = rw (above n h k) }
+draws-spent n h k = record { given = rw (range-high n h k); stands = rw (range-high n h k) }
