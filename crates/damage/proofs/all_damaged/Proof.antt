@@ -1,0 +1,36 @@
+-- `all_damaged` puts the tests of the state and of all that is lent together. Assumes nothing.
+use borrow.Author.Needs.{needs}
+use mathlib.Core.Path.{refl}
+use Rattle.party.specs.Read.{partyOf}
+use Rattle.damage.proofs.Records.{by-tables, by-buffer, by-source}
+use Rattle.damage.proofs.all_damaged.Statement.{statement}
+use Rattle.damage.proofs.all_damaged.Tie as tie
+
+tables-damaged-requires : tie.Need-tables-damaged-requires
+tables-damaged-requires c κs = search needs
+
+returns : tie.Need-returns
+returns c = by-tables _ _ (c .before .tables-damaged .ensures (c .before .before .before .before .args .next) (c .before .before .before .before .args .clauses .now)) (c .if1 .taken)
+
+buffer-damaged-requires : tie.Need-buffer-damaged-requires
+buffer-damaged-requires c κs = search needs
+
+returns-2 : tie.Need-returns-2
+returns-2 c = by-buffer _ _ (c .before .before .before .before .before .tables-damaged .ensures (c .before .before .before .before .before .before .before .before .args .next) (c .before .before .before .before .before .before .before .before .args .clauses .now)) (c .before .before .before .before .if1 .left) _ (c .before .buffer-damaged .ensures (partyOf (c .before .before .before .before .before .before .before .before .args .state .party)) (c .before .before .before .before .before .before .before .before .args .state .shared .left) (c .before .before .before .before .before .before .before .before .args .clauses .now) refl refl) (c .if2 .taken)
+
+source-damaged-requires : tie.Need-source-damaged-requires
+source-damaged-requires c κs = search needs
+
+returns-3 : tie.Need-returns-3
+returns-3 c = by-source _ _ (c .before .before .before .before .before .before .tables-damaged .ensures (c .before .before .before .before .before .before .before .before .before .args .next) (c .before .before .before .before .before .before .before .before .before .args .clauses .now)) (c .before .before .before .before .before .if1 .left) _ (c .before .before .buffer-damaged .ensures (partyOf (c .before .before .before .before .before .before .before .before .before .args .state .party)) (c .before .before .before .before .before .before .before .before .before .args .state .shared .left) (c .before .before .before .before .before .before .before .before .before .args .clauses .now) refl refl) (c .before .if2 .left) _ (c .source-damaged .ensures (c .before .before .before .before .before .before .before .before .before .args .state .shared .fill))
+
+pub all-damaged-spec : {M : Type 1} → statement M
+all-damaged-spec =
+    tie.close
+    (tie.spec
+    tables-damaged-requires
+    returns
+    buffer-damaged-requires
+    returns-2
+    source-damaged-requires
+    returns-3)

@@ -1,0 +1,95 @@
+// The tests of the state's own words and of a term. Each reads what it is given, whatever stands there.
+ghost use mathlib.Core.Path.{_≡_};
+ghost use Prim.Native.Nat.{min};
+ghost use Rattle.model.specs.Machine.{pending};
+ghost use Rattle.model.specs.Damage.{badPending, anyBad, badOutput, anyBadOutput};
+ghost use Rattle.model.specs.Calls.{badTerm};
+ghost use Rattle.party.specs.Read.{termOf, partyOf};
+use crate::Party;
+use literal::GREATEST;
+use literal::Literal;
+use literal::Term;
+
+// A count of pending terms, cut to the places that there are.
+pub fn places(count: usize) -> usize
+    ensures { λ r. ⌜ r ≡ min count 128 ⌝ }
+{
+    if count < 128 {
+        return count;
+    }
+    128
+}
+
+// A pending term that is itself a BadTerm.
+pub fn bad_pending(first: u32, weight: u32, word: u32) -> bool
+    ensures { λ r. ⌜ r ≡ badPending first (record { weight = weight; word = word }) ⌝ }
+{
+    if weight == 0 {
+        return true;
+    }
+    if 1 < word % 4 {
+        return true;
+    }
+    let n = word / 4;
+    if n == 0 {
+        return true;
+    }
+    first <= n
+}
+
+pub fn any_bad(p: Party) -> bool
+    ensures { λ r. ⌜ r ≡ anyBad (p .first) (pending (partyOf p)) ⌝ }
+{
+    let n = places(p.count);
+    let first = p.first;
+    let mut i = 0;
+    while i < n {
+        if bad_pending(first, p.weights[i], p.words[i]) {
+            return true;
+        }
+        i += 1;
+    }
+    false
+}
+
+// An output that is 1, a literal above the greatest, or a bit of a node that is not there.
+pub fn bad_output(nodes: u32, word: u32) -> bool
+    ensures { λ r. ⌜ r ≡ badOutput nodes word ⌝ }
+{
+    if word == 1 {
+        return true;
+    }
+    if word % 4 < 2 {
+        return GREATEST < word / 4;
+    }
+    nodes <= word / 4
+}
+
+pub fn any_bad_output(p: Party) -> bool
+    ensures { λ r. ⌜ r ≡ anyBadOutput (p .nodes) (p .outputs) ⌝ }
+{
+    let nodes = p.nodes;
+    let mut i = 0;
+    while i < 48 {
+        if bad_output(nodes, p.outputs[i]) {
+            return true;
+        }
+        i += 1;
+    }
+    false
+}
+
+// A term with weight 0, or with a variable that is 0 or not below F.
+pub fn bad_term(first: u32, t: Term) -> bool
+    ensures { λ r. ⌜ r ≡ badTerm first (termOf t) ⌝ }
+{
+    let l = t.literal;
+    let n = Literal { word: l }.variable();
+    if t.weight == 0 {
+        return true;
+    }
+    if n == 0 {
+        return true;
+    }
+    first <= n
+}
