@@ -11,7 +11,7 @@ use Rattle.model.specs.Nodes.{carryWord}
 use Rattle.model.specs.Buckets.{Pending, pickBit, lows, box}
 use Rattle.buckets.specs.Read.{pendingFrom, pendingOf}
 use Rattle.buckets.specs.Queue.{carriesFrom, entriesAt, Bucket, bucket, Pushed, Filled, Sized}
-use Rattle.buckets.proofs.Weights.{pending-more, length-pending, pick-length}
+use Rattle.buckets.proofs.Weights.{pending-more, pick-length}
 
 -- a push, and one after another
 pub pushed : (q : List ℕ) (len bit w : ℕ) → len < length q → bit ≤ 1 → Pushed q len (set q len w) (len + bit) (pickBit bit w [])

@@ -10,8 +10,7 @@ use native.Mathlib.Omega.{arith}
 use lib.ListN.{length, length-append, length-drop, length-take, set, take, drop, getD, replicate, drop-of-length-le}
 use lib.Seq.{drop-drop, length-take-le, getD-take}
 use Rattle.model.specs.Nodes.{putNodes}
-use Rattle.model.specs.Buckets.{Pending, drained, Made, lows, highs, box, front, fronts, width, structure, Extended, Outputs, present, outputsOf, ifPending, positionsAfter, nodesAfter, extend}
-use Rattle.buckets.specs.declared.Built.{Built}
+use Rattle.model.specs.Buckets.{Pending, drained, Made, lows, highs, box, front, fronts, width, structure, Extended, present, outputsOf, positionsAfter, nodesAfter, extend}
 use Rattle.buckets.specs.declared.Needs.{Needs}
 use Rattle.buckets.specs.declared.queue.Left.{Left}
 use Rattle.buckets.specs.Read.{Within, pendingOf, extendedOf, outputsAt, needsAfter}

@@ -8,7 +8,7 @@ use borrow.Author.Tests.{lt-ltb, le-ltb}
 use lib.ListN.{length, set, getD, take, length-set}
 use lib.Seq.{slice, slice-empty, slice-cons, take-suc-set, drop-append-le, length-take-le}
 use Rattle.model.specs.Signs.{Kind, half, full}
-use Rattle.model.specs.Nodes.{Node, kindNo, inTable, putNode}
+use Rattle.model.specs.Nodes.{kindNo, inTable, putNode}
 use Rattle.buckets.specs.declared.queue.Open.{Open}
 use Rattle.buckets.specs.Queue.{Bucket, bucket, Opened}
 use Rattle.buckets.proofs.Draining.{bucket-none, bucket-one, bucket-two, bucket-three}

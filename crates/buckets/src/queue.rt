@@ -1,8 +1,8 @@
 // One bucket: its entries in a queue, and the nodes that they make. The queue is an array that is longer than a bucket ever is with
 // the sums that come to its back, so its front and its back only move up.
 ghost use mathlib.Core.Path.{_≡_};
-ghost use mathlib.Core.List.{List, []};
-ghost use Prim.Native.Nat.{ℕ, _+_, _-_, _<_, _≤_};
+ghost use mathlib.Core.List.{[]};
+ghost use Prim.Native.Nat.{_+_, _-_, _<_, _≤_};
 ghost use lib.ListN.{length, take};
 ghost use Rattle.model.specs.Buckets.{box, lows, pickBit};
 ghost use Rattle.model.specs.Nodes.{kindNo, putNode};
