@@ -1,9 +1,9 @@
 // The bucket builder (document 01, 'Building the buckets'; extend_structure of the Rust): the pending terms become nodes of the lent
-// table, and the output words anew. A builder that is handed too small a table or makes more than 48 outputs drops what has no room;
-// its callers ask needs_after first and refuse such a build whole.
+// table, and the output words are made anew. What has no room, a node past the table or an output past the 48th, is dropped; callers ask
+// needs_after first and refuse such a build whole.
 //
-// One queue lives at a time: the carries into a bucket are those of the nodes that the bucket before it made, so the numbers of
-// these nodes, `from` up to `n`, stand for them.
+// One queue lives at a time: the carries into a bucket are those of the nodes that the bucket before it made, so the numbers of these
+// nodes, `from` up to `n`, stand for them.
 mod pending;
 mod queue;
 
@@ -64,13 +64,14 @@ fn list_end(k: usize, i: usize, from: u32, n: u32) -> usize
     i
 }
 
-// Room for one queue; what it holds at first is nobody's business.
+// Room for one queue; the words that it begins with are never read.
 fn room() -> [u32; 400]
     ensures { λ r. ⌜ 400 ≡ length r ⌝ }
 {
     [0u32; 400]
 }
 
+// The 48 places, all absent.
 fn no_outputs() -> [u32; 48]
     ensures { λ r. ⌜ r ≡ replicate 48 0 ⌝ }
 {

@@ -20,6 +20,7 @@ fn heavier(a: u32, b: u32) -> u32
     if a < b { b } else { a }
 }
 
+// How many bits a weight has.
 fn bit_length(w: u32) -> usize
     ensures { λ r. ⌜ r ≡ bits 32 w ⌝ }
 {
@@ -58,7 +59,7 @@ pub(crate) fn first_buckets(weights: &[u32; 128], count: usize, len: usize) -> u
     larger(bit_length(m) + 1, len)
 }
 
-// Past the first k buckets there are no new inputs.
+// How many terms give inputs to bucket i: past the first k buckets there are none.
 pub(crate) fn taking(count: usize, i: usize, k: usize) -> usize
     ensures { λ r. ⌜ (r ≡ inputs count i k) × (r ≤ count) ⌝ }
 {
