@@ -263,7 +263,17 @@ pub fn comparator_if(
     let w = plain_word(own);
     let s = row_of(row, pairs, len, r, w);
     let n = s.len;
-    put_tails(clauses, &row[0..n], pairs, len, 0, s.lowest, s.rest, fill, count)
+    put_tails(
+        clauses,
+        &row[0..n],
+        pairs,
+        len,
+        0,
+        s.lowest,
+        s.rest,
+        fill,
+        count,
+    )
 }
 
 // r + 1. At the greatest number, whose 1 is above all outputs, 0 has the same bits.
@@ -333,7 +343,16 @@ pub fn comparator_only_if(
     }
     let s = row_of(row, pairs, len, q, w);
     let n = s.len;
-    put_ones(clauses, &row[0..n], pairs, len, s.lowest, s.rest, fill, count)
+    put_ones(
+        clauses,
+        &row[0..n],
+        pairs,
+        len,
+        s.lowest,
+        s.rest,
+        fill,
+        count,
+    )
 }
 
 // What the clauses that begin at the wanted bits take, in one pass: a bit whose output is present gives a word to each clause begun so far.

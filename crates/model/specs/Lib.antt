@@ -1,5 +1,5 @@
 -- Document 01 as definitions, in its order: numbers and their limits, literals and their truth, the buffer's words and the
--- evaluator, the replies, the sign table, the node table, building, emitting, comparing, the machine, its damage, bounds, the calls, implications, reifications. No code and no proof stands here; 01's own words stand in quotes.
+-- evaluator, the replies, the sign table, the node table, building, emitting, comparing, the machine, its damage, bounds, the calls, text, the program, implications, reifications. No code and no proof stands here; 01's own words stand in quotes.
 pub mod Limits
 pub mod Logic
 pub mod Words
@@ -13,5 +13,7 @@ pub mod Machine
 pub mod Damage
 pub mod Bounds
 pub mod Calls
+pub mod Text
+pub mod Program
 pub mod Implications
 pub mod Reifications

@@ -38,7 +38,7 @@ same-length-2 c = search needs
 
 returns : tie.Need-returns
 unfolding wants
-returns c = 
+returns c =
     let a = c .before .before .before .before .before .before .before .before .before .args in
     λ os e h. let k = paired os (a .len) (a .pairs .now) e h in
     if-rows (take (a .len) os) (a .r) _ _ _ _ (c .before .before .before .before .before .before .row-of .ensures .1 (take (a .len) os) k) (to-place (c .before .before .before .before .before .before .row-of .last .0) (c .before .before .before .before .before .before .row-of .result .len)) (a .own) _ _

@@ -35,7 +35,7 @@ same-length : tie.Need-same-length
 same-length c = search needs
 
 returns : tie.Need-returns
-returns c = 
+returns c =
     let a = c .before .before .before .before .before .before .before .before .before .args in
     λ os e h. let n = length-take-le (a .len) os h in
     only-unit (take (a .len) os) (a .len) (a .r) _ n (λ d. c .before .before .before .before .before .before .before .before .next-of .ensures (take (a .len) os) d (omega arith)) (a .own) _ (a .clauses .now) _ (a .fill) (a .count) _ _
@@ -63,7 +63,7 @@ same-length-3 : tie.Need-same-length-3
 same-length-3 c = search needs
 
 returns-2 : tie.Need-returns-2
-returns-2 c = 
+returns-2 c =
     let a = c .before .before .before .before .before .before .before .before .before .before .before .before .args in
     λ os e h. let n = length-take-le (a .len) os h in
     let k = paired os (a .len) (a .pairs .now) e h in

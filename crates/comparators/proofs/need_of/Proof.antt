@@ -40,7 +40,7 @@ loop-less : tie.Need-loop-less Inv-loop μ-loop
 loop-less c = search needs
 
 loop-again : tie.Need-loop-again Inv-loop μ-loop
-loop-again c = 
+loop-again c =
     let l = c .before .before .before .before in
     let s = l .before .args in (
       (omega arith, omega arith, omega arith),
@@ -54,7 +54,7 @@ loop-less-2 : tie.Need-loop-less-2 Inv-loop μ-loop
 loop-less-2 c = search needs
 
 loop-again-2 : tie.Need-loop-again-2 Inv-loop μ-loop
-loop-again-2 c = 
+loop-again-2 c =
     let l = c .before .before .before .before in
     let s = l .before .args in (
       (omega arith, omega arith, omega arith),
@@ -65,7 +65,7 @@ loop-less-3 : tie.Need-loop-less-3 Inv-loop μ-loop
 loop-less-3 c = search needs
 
 loop-again-3 : tie.Need-loop-again-3 Inv-loop μ-loop
-loop-again-3 c = 
+loop-again-3 c =
     let l = c .before .before .before .before in
     let s = l .before .args in (
       (omega arith, omega arith, omega arith),
@@ -76,7 +76,7 @@ loop-less-4 : tie.Need-loop-less-4 Inv-loop μ-loop
 loop-less-4 c = search needs
 
 loop-again-4 : tie.Need-loop-again-4 Inv-loop μ-loop
-loop-again-4 c = 
+loop-again-4 c =
     let l = c .before .before .before .before in
     let s = l .before .args in (
       (omega arith, omega arith, omega arith),
@@ -90,7 +90,7 @@ add-t20 : tie.Need-add-t20 Inv-loop μ-loop
 add-t20 c = search needs
 
 returns : tie.Need-returns Inv-loop μ-loop
-returns c = 
+returns c =
     let l = c .before in
     let s = l .before .args in
     λ δ os b u e h. let k = coding os (s .len) (s .codes .now) e h in counting-all δ (take (s .len) os) (s .len) (s .r) b (l .loop .w) (l .loop .n) (l .loop .left) (l .loop .j) (l .loop .inv .1 δ (take (s .len) os) b u k) (k .long) (c .loop-test .left)

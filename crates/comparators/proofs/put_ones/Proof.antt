@@ -39,7 +39,7 @@ same-length c = search needs
 
 returns : tie.Need-returns
 unfolding wants
-returns c = 
+returns c =
     let a = c .before .before .before .before .before .before .before .before .before .before .args in
     λ os b k t. ones-open (drop (a .lowest) os) (a .lowest) (a .rest) b (a .row .now) (a .clauses .now) _ (a .fill) (a .count) _ _ _ (c .before .before .before .before .before .before .before .before .before .if1 .taken) t
     (c .before .before .before .before .before .put-tail .ensures ∙ ap (λ (ws : List ℤ). lay ws (buffer (a .fill) (a .clauses .now))) (whole (a .row .now) _ (omega arith) (back (record { sfits = c .before .before .before .before .before .before .before .put-tail-arg2 .given }))))
@@ -53,7 +53,7 @@ same-length-2 c = search needs
 
 returns-2 : tie.Need-returns-2
 unfolding wants
-returns-2 c = 
+returns-2 c =
     let a = c .before .before .before .before .args in
     λ os b k t. ones-none (drop (a .lowest) os) (a .lowest) (a .rest) b (sink (a .clauses .now) (a .fill) (a .count)) _ (c .before .before .before .if1 .left) (c .before .put-tails2 .ensures onlyif os b refl k t)
 

@@ -16,7 +16,7 @@ use Rattle.comparators.proofs.put_tails.Statement.{statement}
 use Rattle.comparators.proofs.put_tails.Tie as tie
 
 abbrev Inv-loop : tie.InvT-loop
-Inv-loop clauses₀ row pairs len want lowest rest fill count at₀ n₀ p₀ left₀ i₀ clauses at n p left i = 
+Inv-loop clauses₀ row pairs len want lowest rest fill count at₀ n₀ p₀ left₀ i₀ clauses at n p left i =
     ((i ≤ len) × (p ≤ i) × (length clauses ≡ length clauses₀) × (n ≤ mostFill))
     × ((δ : Dir) (os : Outs) (b : Lit) → want ≡ wants δ → Paired os len pairs → Standing (drop lowest os) rest (word b) row
     → Tails δ os b row (putEach (compareRows δ (drop lowest os) rest b) (sink clauses₀ fill count)) clauses at n p left i)
@@ -70,7 +70,7 @@ loop-less : tie.Need-loop-less Inv-loop μ-loop
 loop-less c = search needs
 
 loop-again : tie.Need-loop-again Inv-loop μ-loop
-loop-again c = 
+loop-again c =
     let l = c .before .before .before .before .before .before .before .before .before .before in
     let s = l .before .args in (
       (omega arith, omega arith, c .before .before .put-tail .kept .0 ∙ l .loop .inv .0 .2, omega arith),
@@ -81,7 +81,7 @@ loop-less-2 : tie.Need-loop-less-2 Inv-loop μ-loop
 loop-less-2 c = search needs
 
 loop-again-2 : tie.Need-loop-again-2 Inv-loop μ-loop
-loop-again-2 c = 
+loop-again-2 c =
     let l = c .before .before .before .before .before in
     let s = l .before .args in (
       (omega arith, omega arith, l .loop .inv .0 .2, l .loop .inv .0 .3),
@@ -92,7 +92,7 @@ loop-less-3 : tie.Need-loop-less-3 Inv-loop μ-loop
 loop-less-3 c = search needs
 
 loop-again-3 : tie.Need-loop-again-3 Inv-loop μ-loop
-loop-again-3 c = 
+loop-again-3 c =
     let l = c .before .before .before .before in
     let s = l .before .args in (
       (omega arith, omega arith, l .loop .inv .0 .2, l .loop .inv .0 .3),
@@ -103,7 +103,7 @@ loop-less-4 : tie.Need-loop-less-4 Inv-loop μ-loop
 loop-less-4 c = search needs
 
 loop-again-4 : tie.Need-loop-again-4 Inv-loop μ-loop
-loop-again-4 c = 
+loop-again-4 c =
     let l = c .before .before .before in
     let s = l .before .args in (
       (omega arith, omega arith, l .loop .inv .0 .2, l .loop .inv .0 .3),
@@ -114,7 +114,7 @@ same-length : tie.Need-same-length Inv-loop μ-loop
 same-length c = search needs
 
 returns : tie.Need-returns Inv-loop μ-loop
-returns c = 
+returns c =
     let l = c .before in
     let s = l .before .args in
     λ δ os b u k t. tails-all δ os b (s .row .now) _ (l .loop .clauses) (l .loop .at) (l .loop .n) (l .loop .p) (l .loop .left) (l .loop .i) (s .len) (l .loop .inv .1 δ os b u k t) (k .long) (c .loop-test .left) (l .loop .inv .0 .3)

@@ -49,7 +49,7 @@ loop-less : tie.Need-loop-less Inv-loop μ-loop
 loop-less c = search needs
 
 loop-again : tie.Need-loop-again Inv-loop μ-loop
-loop-again c = 
+loop-again c =
     let l = c .before .before .before in
     let s = l .before .args in (
       (omega arith, omega arith, omega arith, simp length-set (l .loop .inv .0 .3)),
@@ -60,7 +60,7 @@ loop-less-2 : tie.Need-loop-less-2 Inv-loop μ-loop
 loop-less-2 c = search needs
 
 loop-again-2 : tie.Need-loop-again-2 Inv-loop μ-loop
-loop-again-2 c = 
+loop-again-2 c =
     let l = c .before .before .before .before in
     let s = l .before .args in (
       (omega arith, omega arith, omega arith, l .loop .inv .0 .3),
@@ -71,7 +71,7 @@ loop-less-3 : tie.Need-loop-less-3 Inv-loop μ-loop
 loop-less-3 c = search needs
 
 loop-again-3 : tie.Need-loop-again-3 Inv-loop μ-loop
-loop-again-3 c = 
+loop-again-3 c =
     let l = c .before .before .before .before in
     let s = l .before .args in (
       (omega arith, omega arith, omega arith, l .loop .inv .0 .3),
@@ -100,7 +100,7 @@ same-length : tie.Need-same-length Inv-loop μ-loop
 same-length c = simp length-set (c .before .loop .inv .0 .3)
 
 returns : tie.Need-returns Inv-loop μ-loop
-returns c = 
+returns c =
     let l = c .before in
     let s = l .before .args in (
       (omega arith, omega arith, omega arith),
