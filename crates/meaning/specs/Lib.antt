@@ -1,3 +1,7 @@
--- What the theorems' statements need beside the model: sides and constraints under a choice, and the table of starred cases.
+-- What the theorems' statements need beside the model: sides and constraints under a choice, calls in any order, the table of starred cases;
+-- and, for the proof of DEMAND 3, what buckets are worth and the encoder's state as lists.
 pub mod Truth
+pub mod Histories
 pub mod Starred
+pub mod Worth
+pub mod States

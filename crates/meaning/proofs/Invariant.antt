@@ -1,0 +1,119 @@
+-- What holds of the machine after every accepted call, and what follows of the clauses.
+use mathlib.Core.Path.{_≡_, refl, sym, ap, _∙_, subst}
+use mathlib.Core.Logic.{_≢_, _⊎_, inl, inr, _↔_}
+use mathlib.Core.Bool.{Bool, true, false, not, cond}
+use mathlib.Core.List.{List, [], _∷_, _++_}
+use mathlib.Core.Option.{Option, none, some}
+use Prim.Native.Nat.{ℕ, zero, suc, _+_, _*_, _/_, _%_, _≤_, _<_, _^_}
+use native.Mathlib.Omega.{arith}
+use lib.Dec.{T, ltb, leb→le, ltb→lt, lt→ltb}
+use lib.ListN.{length}
+use Rattle.model.specs.Logic.{Lit, pL, nL, neg, variable, litTrue, clausesTrue}
+use Rattle.model.specs.Signs.{Kind, half, full, Bit, sum, carry, Dir, iff, onlyif, signs}
+use Rattle.model.specs.Nodes.{sumWord, carryWord, Node, nodeAt, var, marked, litBy, litAt}
+use Rattle.model.specs.Buckets.{Pending, box, boxes}
+use Rattle.model.specs.Emit.{Em}
+use Rattle.model.specs.Compare.{Outs, outLit, outLits}
+use Rattle.meaning.specs.Worth.{b2n, weigh, weights, value, cnt, valO, outVal}
+use Rattle.meaning.specs.States.{Rec, St, comp, mk}
+use Rattle.meaning.proofs.Tests.{and-l, and-r}
+use Rattle.meaning.proofs.Rows.{third, in3, out2, gate-sound, inOrder}
+use Rattle.meaning.proofs.Sums.{Ord, nodeIn, nodeOut}
+use Rattle.meaning.proofs.Forms.{All, Alls}
+use Rattle.meaning.proofs.Emitting.{Entails, Dep, Mk, MkBy, bitW, OK, OutW, Base, Kid, Known, Good, Canon, lit-bitW, rows-are}
+use Rattle.meaning.proofs.Canonical.{canonV}
+use Rattle.meaning.proofs.Comparing.{compare-if, compare-only}
+
+-- a term's word is a literal of an input variable
+abbrev pub Leaf : ℕ → ℕ → Type 0
+Leaf F w = (w % 4 < 2) × (w / 4 < F) × (w / 4 ≢ 0)
+
+abbrev pub Leaves : ℕ → List Pending → Type 0
+Leaves F [] = Unit {0}
+Leaves F (t ∷ ts) = Leaf F (t .word) × Leaves F ts
+
+-- the inputs' values by words
+abbrev pub leafBy : (ℕ → Bool) → ℕ → ℕ → Bool
+leafBy α zero n = α n
+leafBy α (suc zero) n = not (α n)
+leafBy α (suc (suc k)) n = false
+
+unfoldable pub leaf : (ℕ → Bool) → ℕ → Bool
+leaf α w = leafBy α (w % 4) (w / 4)
+
+abbrev pub AllR : (Rec → Type 0) → List Rec → Type 0
+AllR P [] = Unit {0}
+AllR P (x ∷ xs) = P x × AllR P xs
+
+module _ (F : ℕ) where
+  pub record RecOK (st : St) (x : Rec) : Type 0 where
+    pub low : x .rv < st .em .next
+    pub nz : x .rv ≢ 0
+    pub small : x .r < 2 ^ length (st .outs)
+    pub outs : (δ : Dir) → T (mk δ x) → Alls (Mk (st .em .table) δ) (boxes (st .outs))
+    pub clauses : (δ : Dir) → T (mk δ x) → Entails (st .em .sink) (comp δ (outLits (st .em .table) (st .outs)) (x .r) (pL (x .rv)))
+
+  abbrev pub canon : St → (ℕ → Bool) → ℕ → Bool
+  canon st α = canonV (st .em .table) (st .N) (leaf α)
+
+  pub record Fits (st : St) (α α′ : ℕ → Bool) : Type 0 where
+    pub good : Good (st .N) F (canon st α) α′ (st .em)
+    pub same : (y : ℕ) → y < F → α′ y ≡ α y
+    pub recs : AllR (λ x. α′ (x .rv) ≡ ltb (x .r) (value (canon st α) (boxes (st .outs)))) (st .recs)
+
+  pub record Inv (st : St) : Type 1 where
+    pub base : Base (st .N) F (st .em)
+    pub right : (γ : Bit) (δ : Dir) (m : ℕ) → m < st .N → T (marked (st .em .table) γ δ m) → OK (st .em) γ δ m
+    pub kids : Alls (OutW F (st .N)) (boxes (st .outs))
+    pub ledger : (δ : Dir) (v : ℕ → Bool) → ((n : ℕ) → n < st .N → Ord δ (nodeIn v (nodeAt (st .em .table) n)) (nodeOut v n)) → Ord δ (weigh v (st .done)) (value v (boxes (st .outs)))
+    pub cover : (M : ℕ → Type 0) → ((n : ℕ) → n < st .N → M (sumWord n) → M ((nodeAt (st .em .table) n) .a) × M ((nodeAt (st .em .table) n) .b) × M ((nodeAt (st .em .table) n) .c))
+        → Alls M (boxes (st .outs)) → (n : ℕ) → n < st .N → M (sumWord n) × M (carryWord n)
+    pub leaves : Leaves F (st .done)
+    pub pends : Leaves F (st .pend)
+    pub recs : AllR (RecOK st) (st .recs)
+    pub fits : (α : ℕ → Bool) → (α′ : ℕ → Bool) × Fits st α α′
+
+  -- a node's bit is marked where its word is
+  mk-sum : (t : List ℕ) (δ : Dir) (n : ℕ) → Mk t δ (sumWord n) → T (marked t sum δ n)
+  unfolding sumWord
+  mk-sum t δ n h = rw (m4, d4) at h
+    where
+      m4 : (4 * n + 2) % 4 ≡ 2
+      m4 = omega arith
+
+      d4 : (4 * n + 2) / 4 ≡ n
+      d4 = omega arith
+
+  mk-car : (t : List ℕ) (δ : Dir) (n : ℕ) → Mk t δ (carryWord n) → T (marked t carry δ n)
+  unfolding carryWord
+  mk-car t δ n h = rw (m4, d4) at h
+    where
+      m4 : (4 * n + 3) % 4 ≡ 3
+      m4 = omega arith
+
+      d4 : (4 * n + 3) / 4 ≡ n
+      d4 = omega arith
+
+  -- where the outputs are marked, every node is
+  pub all-marked : (st : St) (δ : Dir) → Inv st → Alls (Mk (st .em .table) δ) (boxes (st .outs)) → (n : ℕ) → n < st .N → T (marked (st .em .table) sum δ n) × T (marked (st .em .table) carry δ n)
+  all-marked st δ I o n l =
+      let r = I .cover (Mk (st .em .table) δ) (λ m h k. let q = I .right sum δ m h (mk-sum (st .em .table) δ m k) in (q .ka, q .kb, q .kc)) o n l in
+      (mk-sum (st .em .table) δ n (r .0), mk-car (st .em .table) δ n (r .1))
+
+  order : (δ : Dir) (i o : ℕ) → T (inOrder δ i o) → Ord δ i o
+  order iff i o t = leb→le i o t
+  order onlyif i o t = leb→le o i t
+
+  -- so the words' values keep the order at each node
+  pub each-node : (st : St) (δ : Dir) (α : ℕ → Bool) → Inv st → T (clausesTrue α (st .em .sink)) → Alls (Mk (st .em .table) δ) (boxes (st .outs))
+      → (n : ℕ) → n < st .N → Ord δ (nodeIn (λ w. litTrue α (litAt (st .em .table) w)) (nodeAt (st .em .table) n)) (nodeOut (λ w. litTrue α (litAt (st .em .table) w)) n)
+  each-node st δ α I c o n l =
+      let t = st .em .table in
+      let nd = nodeAt t n in
+      let m = all-marked st δ I o n l in
+      let x = I .right sum δ n l (m .0) in
+      let y = I .right carry δ n l (m .1) in
+      let v : ℕ → Bool = λ w. litTrue α (litAt t w) in
+      order δ _ _ (gate-sound (nd .kind) δ (v (nd .a)) (v (nd .b)) (v (nd .c)) (v (sumWord n)) (v (carryWord n))
+      (rw (rows-are (st .N) F t sum δ n α _ _ _ _ refl refl refl refl) at (x .rows α c))
+      (rw (rows-are (st .N) F t carry δ n α _ _ _ _ refl refl refl refl) at (y .rows α c)))

@@ -1,0 +1,144 @@
+-- Every literal is of a variable from 1 to below x, so the buffer's words say the clauses.
+use mathlib.Core.Path.{_≡_, refl, sym, ap, _∙_}
+use mathlib.Core.Logic.{_≢_}
+use mathlib.Core.Bool.{Bool, true, false, not, cond, _&&_, _||_}
+use mathlib.Core.List.{List, [], _∷_, _++_}
+use mathlib.Core.Option.{Option, none, some}
+use Prim.Native.Nat.{ℕ, zero, suc, _+_, _*_, _/_, _%_, _^_, _≤_, _<_}
+use native.Mathlib.Omega.{arith}
+use native.Mathlib.Nat.{mod-eq-of-lt}
+use lib.Dec.{eqb}
+use lib.ListN.{length}
+use lib.IntN.{ℤ, pos, negsuc}
+use Rattle.model.specs.Logic.{Lit, pL, nL, neg, variable, litTrue, oneTrue, clausesTrue}
+use Rattle.model.specs.Signs.{Kind, half, full, Bit, sum, carry, Dir, iff, onlyif, Row, signs, signed, rowAt, rowsAt}
+use Rattle.model.specs.Compare.{Outs, ahead, above, higher, comparator}
+use Rattle.meaning.specs.States.{comp}
+use Rattle.meaning.proofs.Comparing.{ownIf, ifClauses, ownOnly, onlyAux, onlyClauses}
+
+abbrev pub ForFull : Kind → Type 0 → Type 0
+ForFull half X = Unit {0}
+ForFull full X = X
+
+-- a literal of a variable from 1 to below x
+abbrev pub Lw : ℕ → Lit → Type 0
+Lw x l = (variable l ≢ 0) × (variable l < x)
+
+module _ (x : ℕ) where
+  abbrev pub NZc : List Lit → Type 0
+  NZc [] = Unit {0}
+  NZc (l ∷ ls) = (Lw x l) × NZc ls
+
+  abbrev pub NZs : List (List Lit) → Type 0
+  NZs [] = Unit {0}
+  NZs (c ∷ cs) = NZc c × NZs cs
+
+  pub NZs-append : (cs ds : List (List Lit)) → NZs cs → NZs ds → NZs (cs ++ ds)
+  NZs-append [] ds h k = k
+  NZs-append (c ∷ cs) ds h k = (h .0, NZs-append cs ds (h .1) k)
+
+  NZc-append : (c d : List Lit) → NZc c → NZc d → NZc (c ++ d)
+  NZc-append [] d h k = k
+  NZc-append (l ∷ c) d h k = (h .0, NZc-append c d (h .1) k)
+
+  neg-nz : (l : Lit) → Lw x l → Lw x (neg l)
+  unfolding neg variable
+  neg-nz (pL n) h = h
+  neg-nz (nL n) h = h
+
+  -- the gates' rows
+  row-nz : (r : Row) (ls : List Lit) → NZc ls → NZc (rowAt r ls)
+  unfolding rowAt signed
+  row-nz [] ls h = tt
+  row-nz (s ∷ r) [] h = tt
+  row-nz (s ∷ r) (l ∷ ls) h = go s (row-nz r ls (h .1))
+    where
+      go : (s : ℕ) → NZc (rowAt r ls) → NZc (signed s l (rowAt r ls))
+      go zero k = k
+      go (suc zero) k = (h .0, k)
+      go (suc (suc s)) k = (neg-nz l (h .0), k)
+
+  rows-nz : (rs : List Row) (ls : List Lit) → NZc ls → NZs (rowsAt rs ls)
+  unfolding rowsAt
+  rows-nz [] ls h = tt
+  rows-nz (r ∷ rs) ls h = (row-nz r ls h, rows-nz rs ls h)
+
+  half-c : (β : Bit) (δ : Dir) (a b c o : Lit) → rowsAt (signs half β δ) (a ∷ b ∷ c ∷ o ∷ []) ≡ rowsAt (signs half β δ) (a ∷ b ∷ a ∷ o ∷ [])
+  unfolding rowsAt signs rowAt signed
+  half-c sum iff a b c o = refl
+  half-c sum onlyif a b c o = refl
+  half-c carry iff a b c o = refl
+  half-c carry onlyif a b c o = refl
+
+  pub gate-nz : (κ : Kind) (β : Bit) (δ : Dir) (a b c o : Lit) → Lw x a → Lw x b → ForFull κ (Lw x c) → Lw x o → NZs (rowsAt (signs κ β δ) (a ∷ b ∷ c ∷ o ∷ []))
+  gate-nz full β δ a b c o p q r s = rows-nz (signs full β δ) (a ∷ b ∷ c ∷ o ∷ []) (p, (q, (r, (s, tt))))
+  gate-nz half β δ a b c o p q r s = rw (half-c β δ a b c o) (rows-nz (signs half β δ) (a ∷ b ∷ a ∷ o ∷ []) (p, (q, (p, (s, tt)))))
+
+  -- the comparators
+  abbrev pub NZo : Option Lit → Type 0
+  NZo none = Unit {0}
+  NZo (some l) = Lw x l
+
+  abbrev pub NZos : Outs → Type 0
+  NZos [] = Unit {0}
+  NZos (o ∷ os) = NZo o × NZos os
+
+  abbrev NZt : Option (List Lit) → Type 0
+  NZt none = Unit {0}
+  NZt (some ls) = NZc ls
+
+  ahead-nz : (l : Lit) (t : Option (List Lit)) → Lw x l → NZt t → NZt (ahead l t)
+  ahead-nz l none h k = tt
+  ahead-nz l (some ls) h k = (h, k)
+
+  above-nz : (m : ℕ) (o : Option Lit) (t : Option (List Lit)) → NZo o → NZt t → NZt (above m o t)
+  above-nz zero none t h k = k
+  above-nz zero (some o) t h k = ahead-nz o t h k
+  above-nz (suc m) none t h k = tt
+  above-nz (suc m) (some o) t h k = ahead-nz (neg o) t (neg-nz o h) k
+
+  tail-nz : (os : Outs) (r : ℕ) → NZos os → NZt (higher os r)
+  tail-nz [] r h = tt
+  tail-nz (o ∷ os) r h = above-nz (r % 2) o (higher os (r / 2)) (h .0) (tail-nz os (r / 2) (h .1))
+
+  ownIf-nz : (m : ℕ) (o : Option Lit) (t : Option (List Lit)) (b : Lit) → NZo o → NZt t → Lw x b → NZs (ownIf m o t b)
+  ownIf-nz zero none t b h k l = tt
+  ownIf-nz zero (some o) none b h k l = tt
+  ownIf-nz zero (some o) (some ls) b h k l = ((neg-nz o h, NZc-append ls (b ∷ []) k (l, tt)), tt)
+  ownIf-nz (suc m) o t b h k l = tt
+
+  if-nz : (os : Outs) (r : ℕ) (b : Lit) → NZos os → Lw x b → NZs (ifClauses os r b)
+  if-nz [] r b h l = tt
+  if-nz (o ∷ os) r b h l = NZs-append (ownIf (r % 2) o (higher os (r / 2)) b) (ifClauses os (r / 2) b) (ownIf-nz (r % 2) o (higher os (r / 2)) b (h .0) (tail-nz os (r / 2) (h .1)) l) (if-nz os (r / 2) b (h .1) l)
+
+  ownOnly-nz : (m : ℕ) (o : Option Lit) (t : Option (List Lit)) (b : Lit) → NZo o → NZt t → Lw x b → NZs (ownOnly m o t b)
+  ownOnly-nz zero o t b h k l = tt
+  ownOnly-nz (suc m) none none b h k l = tt
+  ownOnly-nz (suc m) (some o) none b h k l = tt
+  ownOnly-nz (suc m) none (some ls) b h k l = (NZc-append ls (neg b ∷ []) k (neg-nz b l, tt), tt)
+  ownOnly-nz (suc m) (some o) (some ls) b h k l = ((h, NZc-append ls (neg b ∷ []) k (neg-nz b l, tt)), tt)
+
+  only-nz : (os : Outs) (r : ℕ) (b : Lit) → NZos os → Lw x b → NZs (onlyAux os r b)
+  only-nz [] r b h l = tt
+  only-nz (o ∷ os) r b h l = NZs-append (ownOnly (r % 2) o (higher os (r / 2)) b) (onlyAux os (r / 2) b) (ownOnly-nz (r % 2) o (higher os (r / 2)) b (h .0) (tail-nz os (r / 2) (h .1)) l) (only-nz os (r / 2) b (h .1) l)
+
+  pub comp-nz : (δ : Dir) (os : Outs) (r : ℕ) (b : Lit) → NZos os → Lw x b → NZs (comp δ os r b)
+  unfolding comparator
+  comp-nz iff os r b h l = if-nz os r b h l
+  comp-nz onlyif os r b h l = go (eqb (r + 1) (2 ^ length os))
+    where
+      go : (q : Bool) → NZs (cond q ((neg b ∷ []) ∷ []) (onlyAux os (r + 1) b))
+      go true = ((neg-nz b l, tt), tt)
+      go false = only-nz os (r + 1) b h l
+
+-- a larger x
+NZc-mono : (x y : ℕ) → x ≤ y → (c : List Lit) → NZc x c → NZc y c
+NZc-mono x y h [] k = tt
+NZc-mono x y h (l ∷ c) k = ((k .0 .0, up (variable l) (k .0 .1)), NZc-mono x y h c (k .1))
+  where
+    up : (v : ℕ) → v < x → v < y
+    up v m = omega arith
+
+pub NZs-mono : (x y : ℕ) → x ≤ y → (cs : List (List Lit)) → NZs x cs → NZs y cs
+NZs-mono x y h [] k = tt
+NZs-mono x y h (c ∷ cs) k = (NZc-mono x y h c (k .0), NZs-mono x y h cs (k .1))
