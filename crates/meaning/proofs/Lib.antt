@@ -16,3 +16,6 @@ pub mod Canonical
 pub mod Invariant
 pub mod Answers
 pub mod Advance
+pub mod Building
+pub mod Bound
+pub mod Simple
