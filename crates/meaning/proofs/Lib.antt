@@ -19,3 +19,5 @@ pub mod Advance
 pub mod Building
 pub mod Bound
 pub mod Simple
+pub mod Records
+pub mod Working

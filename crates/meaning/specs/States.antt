@@ -103,6 +103,11 @@ abbrev pub bounds : Dir → List ℕ → St → St
 bounds δ [] st = st
 bounds δ (r ∷ rs) st = bounds δ rs (boundSt δ r st)
 
+-- one direction of an encoding: the outputs, then the values
+abbrev pub encodeSt : Dir → List ℕ → St → St
+encodeSt δ [] st = st
+encodeSt δ (r ∷ rs) st = bounds δ (r ∷ rs) (emitSt δ st)
+
 unfoldable pub reserveSt : St → St
 reserveSt st = record { em = reserveAll plus1 (st .N) (st .outs) (st .em); N = st .N; outs = st .outs; recs = st .recs; done = st .done; pend = st .pend }
 

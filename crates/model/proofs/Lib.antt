@@ -1,3 +1,4 @@
 -- Laws of the definitions that the crates of code lean on.
 pub mod Buffer
 pub mod Literals
+pub mod Emission
