@@ -21,3 +21,4 @@ pub mod Bound
 pub mod Simple
 pub mod Records
 pub mod Working
+pub mod Adding
