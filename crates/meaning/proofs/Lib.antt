@@ -22,3 +22,4 @@ pub mod Simple
 pub mod Records
 pub mod Working
 pub mod Adding
+pub mod Whole

@@ -9,10 +9,10 @@ use lib.ListN.{length, getD}
 use Rattle.model.specs.Logic.{Lit, pL, nL}
 use Rattle.model.specs.Signs.{Dir, iff, onlyif}
 use Rattle.model.specs.Nodes.{bitAt, putNodes}
-use Rattle.model.specs.Buckets.{Pending, Made, structure, fronts}
+use Rattle.model.specs.Buckets.{Pending, Made, structure, fronts, present}
 use Rattle.model.specs.Emit.{Em, emitAll, reserveAll}
 use Rattle.model.specs.Compare.{Outs, comparator, outLits}
-use Rattle.model.specs.Machine.{addAll}
+use Rattle.model.specs.Machine.{Machine, pending}
 use Rattle.model.specs.Bounds.{plus1, follow, Clauses}
 use Rattle.model.specs.Calls.{clearNodes}
 use Rattle.meaning.specs.Worth.{weights}
@@ -40,6 +40,17 @@ recAt b i = record { r = getD b (3 * i) 0; rv = getD b (3 * i + 1) 0; mi = bitAt
 abbrev pub recsOf : List ℕ → ℕ → ℕ → List Rec
 recsOf b i zero = []
 recsOf b i (suc n) = recAt b i ∷ recsOf b (suc i) n
+
+-- the state of a machine, where `done` are the terms that are built and `cls` the clauses that its buffer holds
+abbrev pub stOf : Machine → List Pending → Clauses → St
+stOf m done cls = record {
+  em = record { table = m .nodes; next = m .next; sink = cls };
+  N = m .party .nodes;
+  outs = present (m .party .outputs);
+  recs = recsOf (m .bounds) 0 (m .party .bounds);
+  done = done;
+  pend = pending (m .party);
+}
 
 abbrev pub start : ℕ → List ℕ → St
 start next t = record { em = record { table = t; next = next; sink = [] }; N = 0; outs = []; recs = []; done = []; pend = [] }
