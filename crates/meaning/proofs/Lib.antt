@@ -23,3 +23,4 @@ pub mod Records
 pub mod Working
 pub mod Adding
 pub mod Whole
+pub mod Ready

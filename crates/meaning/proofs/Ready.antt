@@ -1,0 +1,177 @@
+-- A build that is not refused: the machine holds what it held, with nothing pending. Assumes nothing.
+use mathlib.Core.Path.{_≡_, refl, sym, ap, ap₂, _∙_}
+use mathlib.Core.Bool.{Bool, true, false, cond}
+use mathlib.Core.List.{List, [], _∷_, _++_}
+use Prim.Native.Nat.{ℕ, zero, suc, _+_, _*_, _/_, _≤_, _<_, _^_, min, max}
+use native.Mathlib.Nat.{pow-le-pow-right}
+use native.Mathlib.Omega.{arith}
+use borrow.Author.Tests.{eqb-true, ltb-false}
+use lib.Dec.{eqb, ltb}
+use lib.ListN.{length, take, replicate, length-replicate}
+use lib.Seq.{sets}
+use Rattle.model.specs.Limits.{mostTerms, mostTotal, mostOutputs, mostNodes}
+use Rattle.model.specs.Nodes.{putNodes}
+use Rattle.model.specs.Buckets.{Pending, bits, heaviest, width, Made, front, fronts, structure, ifPending, positionsAfter, nodesAfter, Outputs, present, outputsOf, Extended, extend}
+use Rattle.model.specs.Machine.{Party, Machine, pendingOf, pending, weighed, totalOf}
+use Rattle.model.specs.Bounds.{Clauses}
+use Rattle.model.specs.Calls.{built, tooWide, noNodes}
+use Rattle.model.proofs.Buffer.{sets-stand}
+use Rattle.meaning.specs.Worth.{weigh, weights}
+use Rattle.meaning.specs.States.{St, stOf, buildSt}
+use Rattle.meaning.proofs.Sums.{Fit}
+use Rattle.meaning.proofs.Invariant.{leaf, Inv}
+use Rattle.meaning.proofs.Answers.{sumAll}
+use Rattle.meaning.proofs.Building.{buildSt-inv}
+use Rattle.meaning.proofs.Adding.{weighed-is, pending-length}
+use Rattle.meaning.proofs.Whole.{Whole}
+
+-- the weights fit the buckets
+half-up : (k w : ℕ) → w / 2 < 2 ^ k → w < 2 ^ suc k
+half-up k w h = omega arith
+
+half-down : (k w : ℕ) → w < 2 ^ suc k → w / 2 < 2 ^ k
+half-down k w h = omega arith
+
+bits-fit : (f w : ℕ) → w < 2 ^ f → w < 2 ^ bits f w
+bits-fit zero w h = h
+bits-fit (suc f) w h = go (eqb w 0) refl (bits-fit f (w / 2) (half-down f w h))
+  where
+    go : (q : Bool) → eqb w 0 ≡ q → w / 2 < 2 ^ bits f (w / 2) → w < 2 ^ cond q 0 (suc (bits f (w / 2)))
+    go true e ih = let z : w ≡ 0 = eqb-true w 0 e in omega arith
+    go false e ih = half-up (bits f (w / 2)) w ih
+
+fit-most : (m k : ℕ) (ts : List Pending) → heaviest ts ≤ m → m < 2 ^ k → Fit k ts
+fit-most m k [] h l = tt
+fit-most m k (t ∷ ts) h l = (omega arith, fit-most m k ts (omega arith) l)
+
+heaviest-le : (ts : List Pending) → heaviest ts ≤ weights ts
+heaviest-le [] = omega arith
+heaviest-le (t ∷ ts) = omega (arith, heaviest-le ts)
+
+width-fit : (ts : List Pending) (os : List ℕ) → weights ts ≤ mostTotal → Fit (width ts os) ts
+unfolding width
+width-fit ts os h =
+    let k : ℕ = bits 32 (heaviest ts) in
+    let l : heaviest ts < 2 ^ bits 32 (heaviest ts) = bits-fit 32 (heaviest ts) (omega (arith, heaviest-le ts)) in
+    let r : 2 ^ bits 32 (heaviest ts) ≤ 2 ^ max (bits 32 (heaviest ts) + 1) (length os) = pow-le-pow-right (omega arith) (omega arith) in
+    fit-most (heaviest ts) (max (bits 32 (heaviest ts) + 1) (length os)) ts (omega arith) (omega arith)
+
+-- outputs in their 48 places
+fronts-length : (qs : List (List ℕ)) → length (fronts qs) ≡ length qs
+fronts-length [] = refl
+fronts-length (q ∷ qs) = ap suc (fronts-length qs)
+
+present-back : (ws : List ℕ) → length ws ≤ mostOutputs → present (outputsOf ws) ≡ ws
+unfolding present outputsOf
+present-back ws h = sets-stand ws (replicate mostOutputs 0) 0 (length ws) refl (omega (arith, length-replicate {A = ℕ} mostOutputs 0))
+
+weights-append : (ts us : List Pending) → weights (ts ++ us) ≡ weights ts + weights us
+weights-append [] us = omega arith
+weights-append (t ∷ ts) us = omega (arith, weights-append ts us)
+
+weigh-append : (v : ℕ → Bool) (ts us : List Pending) → weigh v (ts ++ us) ≡ weigh v ts + weigh v us
+weigh-append v [] us = omega arith
+weigh-append v (t ∷ ts) us = omega (arith, weigh-append v ts us)
+
+-- where terms are pending
+extend-some : (ps : List Pending) (os : Outputs) (n : ℕ) (t : List ℕ) (u : Pending) (us : List Pending) → ps ≡ u ∷ us
+    → extend ps os n t ≡ record {
+      table = putNodes t n (structure ps (present os) n .made);
+      outputs = outputsOf (fronts (structure ps (present os) n .outs));
+      nodes = n + length (structure ps (present os) n .made);
+    }
+unfolding extend
+extend-some ps os n t u us e =
+    let m : Made = structure ps (present os) n in
+    let new : Extended = record { table = putNodes t n (m .made); outputs = outputsOf (fronts (m .outs)); nodes = n + length (m .made) } in
+    ap (λ (qs : List Pending). ifPending qs (record { table = t; outputs = os; nodes = n }) new) e
+
+pub record Ready (F : ℕ) (m b : Machine) (done : List Pending) (cls : Clauses) : Type 1 where
+  pub done′ : List Pending
+  pub whole : Whole F b done′ cls
+  pub none : b .party .count ≡ 0
+  pub total : totalOf (b .party) ≡ totalOf (m .party)
+  pub sum : (α : ℕ → Bool) → weigh (leaf α) done′ ≡ sumAll (stOf m done cls) α
+
+module _ (F : ℕ) (m : Machine) (done : List Pending) (cls : Clauses) (W : Whole F m done cls) where
+  ps : List Pending
+  ps = pending (m .party)
+
+  made : Made
+  made = structure ps (present (m .party .outputs)) (m .party .nodes)
+
+  -- the machine after a build with these outputs, nodes and table
+  abbrev after : Extended → Machine
+  after x = record {
+    party = record {
+      first = m .party .first;
+      weights = replicate mostTerms 0;
+      words = replicate mostTerms 0;
+      count = 0;
+      built = totalOf (m .party);
+      outputs = x .outputs;
+      nodes = x .nodes;
+      bounds = 0;
+      clauses = m .party .clauses;
+      drawn = m .party .drawn;
+    };
+    shared = m .shared;
+    next = m .next;
+    nodes = x .table;
+    bounds = m .bounds;
+    clauses = m .clauses;
+  }
+
+  totals : totalOf (m .party) ≡ weights done + weights (pending (m .party))
+  unfolding totalOf
+  totals = ap₂ _+_ (W .built) (weighed-is (pending (m .party)))
+
+  after-inv : length (made .outs) ≤ mostOutputs → 8 * (m .party .nodes + length (made .made)) ≤ length (m .nodes)
+      → Inv F (stOf (after (record { table = putNodes (m .nodes) (m .party .nodes) (made .made); outputs = outputsOf (fronts (made .outs)); nodes = m .party .nodes + length (made .made) })) (done ++ ps) cls)
+  unfolding buildSt made ps pending pendingOf
+  after-inv h r =
+      rw (present-back (fronts (made .outs)) (omega (arith, fronts-length (made .outs))))
+      (buildSt-inv F (stOf m done cls) (W .inv) (width-fit ps (present (m .party .outputs)) (omega (arith, W .limit, totals))) r)
+
+  after-ready : length (made .outs) ≤ mostOutputs → 8 * (m .party .nodes + length (made .made)) ≤ length (m .nodes)
+      → Ready F m (after (record { table = putNodes (m .nodes) (m .party .nodes) (made .made); outputs = outputsOf (fronts (made .outs)); nodes = m .party .nodes + length (made .made) })) done cls
+  unfolding ps totalOf pending pendingOf weighed
+  after-ready h r = record {
+    done′ = done ++ ps;
+    whole = record {
+      inv = after-inv h r;
+      limit = omega (arith, W .limit);
+      built = totals ∙ sym (weights-append done ps);
+      first = W .first;
+      places = length-replicate {A = ℕ} mostTerms 0;
+      beside = length-replicate {A = ℕ} mostTerms 0;
+      few = omega arith;
+      records = omega arith;
+      within = W .within;
+      words = W .words;
+      range = W .range;
+    };
+    none = refl;
+    total = omega arith;
+    sum = λ α. weigh-append (leaf α) done ps;
+  }
+
+  built-is : built m ≡ ifPending ps m (after (extend ps (m .party .outputs) (m .party .nodes) (m .nodes)))
+  unfolding built ps
+  built-is = refl
+
+  pub ready : tooWide m ≡ false → noNodes m ≡ false → Ready F m (built m) done cls
+  unfolding tooWide noNodes positionsAfter nodesAfter made ps
+  ready w n = rw built-is (go ps refl (ltb-false _ _ w) (ltb-false _ _ n))
+    where
+      go : (qs : List Pending) → ps ≡ qs → ifPending qs (length (present (m .party .outputs))) (length (made .outs)) ≤ mostOutputs
+          → ifPending qs (m .party .nodes) (m .party .nodes + length (made .made)) ≤ min mostNodes (length (m .nodes) / 8)
+          → Ready F m (ifPending qs m (after (extend ps (m .party .outputs) (m .party .nodes) (m .nodes)))) done cls
+      go [] e h k = record {
+        done′ = done;
+        whole = W;
+        none = sym (pending-length (m .party) (omega (arith, W .few, W .places)) (omega (arith, W .few, W .beside))) ∙ ap length e;
+        total = refl;
+        sum = λ α. rw e (omega arith);
+      }
+      go (u ∷ us) e h k = rw (extend-some ps (m .party .outputs) (m .party .nodes) (m .nodes) u us e) (after-ready h (omega arith))
