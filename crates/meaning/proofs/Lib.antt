@@ -24,3 +24,4 @@ pub mod Working
 pub mod Adding
 pub mod Whole
 pub mod Ready
+pub mod Encoding
