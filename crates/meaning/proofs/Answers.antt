@@ -17,7 +17,7 @@ use Rattle.model.specs.Buckets.{Pending, box, boxes}
 use Rattle.model.specs.Emit.{Em}
 use Rattle.model.specs.Compare.{Outs, outLit, outLits, comparator}
 use Rattle.meaning.specs.Worth.{b2n, weigh, weights, value, cnt, valO, outVal}
-use Rattle.meaning.specs.States.{Rec, St, comp, mk, lookup, Answer, nothing, lit, refused, upLit, loLit, ifNone, totalSt, upper, lower}
+use Rattle.meaning.specs.States.{Rec, St, comp, mk, lookup, Answer, unneeded, lit, unanswered, upLit, loLit, ifNone, totalSt, upper, lower}
 use Rattle.meaning.proofs.Tests.{T-of, T-true}
 use Rattle.meaning.proofs.Sums.{Ord}
 use Rattle.meaning.proofs.Emitting.{Base, Canon}
@@ -82,9 +82,9 @@ found P r (y ∷ ys) x a e = go (eqb (y .r) r) refl e (λ g. found P r ys x (a .
     go false p g ih = ih g
 
 abbrev pub ansB : (ℕ → Bool) → Answer → Bool
-ansB α nothing = true
+ansB α unneeded = true
 ansB α (lit l) = litTrue α l
-ansB α refused = false
+ansB α unanswered = false
 
 abbrev pub sumAll : St → (ℕ → Bool) → ℕ
 sumAll st α = weigh (leaf α) (st .done) + weigh (leaf α) (st .pend)
@@ -130,7 +130,7 @@ module _ (F : ℕ) where
           f : RecOK F st x × (x .r ≡ U)
           f = found (RecOK F st) U (st .recs) x (I .recs) e
 
-          mi-by : (q : Bool) → x .mi ≡ q → T (ansB α′ (cond q (lit (nL (x .rv))) refused)) → weigh (leaf α) (st .done) ≤ U
+          mi-by : (q : Bool) → x .mi ≡ q → T (ansB α′ (cond q (lit (nL (x .rv))) unanswered)) → weigh (leaf α) (st .done) ≤ U
           mi-by false p k′ = absurd k′
           mi-by true p k′ =
               let m : T (mk iff x) = T-of (x .mi) p in
@@ -146,7 +146,7 @@ module _ (F : ℕ) where
       pends [] k = omega (arith, rec (lookup U (st .recs)) refl k)
       pends (p ∷ ps) k = absurd k
 
-      go : (q : Bool) → leb (totalSt st) U ≡ q → T (ansB α′ (cond q nothing (ifNone (st .pend) (upLit (lookup U (st .recs)))))) → sumAll st α ≤ U
+      go : (q : Bool) → leb (totalSt st) U ≡ q → T (ansB α′ (cond q unneeded (ifNone (st .pend) (upLit (lookup U (st .recs)))))) → sumAll st α ≤ U
       go true p k = let h : totalSt st ≤ U = leb-true (totalSt st) U p in omega (arith, weigh-le (leaf α) (st .done), weigh-le (leaf α) (st .pend))
       go false p k = pends (st .pend) k
 
@@ -163,7 +163,7 @@ module _ (F : ℕ) where
           f : RecOK F st x × (x .r ≡ L)
           f = found (RecOK F st) L (st .recs) x (I .recs) e
 
-          mo-by : (q : Bool) → x .mo ≡ q → T (ansB α′ (cond q (lit (pL (x .rv))) refused)) → L < weigh (leaf α) (st .done)
+          mo-by : (q : Bool) → x .mo ≡ q → T (ansB α′ (cond q (lit (pL (x .rv))) unanswered)) → L < weigh (leaf α) (st .done)
           mo-by false p k′ = absurd k′
           mo-by true p k′ =
               let m : T (mk onlyif x) = T-of (x .mo) p in
@@ -179,55 +179,55 @@ module _ (F : ℕ) where
       pends [] k = omega (arith, rec (lookup L (st .recs)) refl k)
       pends (p ∷ ps) k = absurd k
 
-      go : (q : Bool) → T (ansB α′ (cond q refused (ifNone (st .pend) (loLit (lookup L (st .recs)))))) → suc L ≤ sumAll st α
+      go : (q : Bool) → T (ansB α′ (cond q unanswered (ifNone (st .pend) (loLit (lookup L (st .recs)))))) → suc L ≤ sumAll st α
       go true k = absurd k
       go false k = pends (st .pend) k
 
   -- the canonical choice makes the answers true
-  up-complete : (st : St) (U : ℕ) (α α′ : ℕ → Bool) → Inv F st → Fits F st α α′ → upper U st ≢ refused → sumAll st α ≤ U → T (ansB α′ (upper U st))
+  up-complete : (st : St) (U : ℕ) (α α′ : ℕ → Bool) → Inv F st → Fits F st α α′ → upper U st ≢ unanswered → sumAll st α ≤ U → T (ansB α′ (upper U st))
   unfolding upper litTrue
   up-complete st U α α′ I G n h = go (leb (totalSt st) U) n
     where
-      rec : (o : Option Rec) → lookup U (st .recs) ≡ o → upLit o ≢ refused → weigh (leaf α) (st .done) ≤ U → T (ansB α′ (upLit o))
+      rec : (o : Option Rec) → lookup U (st .recs) ≡ o → upLit o ≢ unanswered → weigh (leaf α) (st .done) ≤ U → T (ansB α′ (upLit o))
       rec none e k l = absurd (k refl)
       rec (some x) e k l = mi-by (x .mi) k
         where
           f : (α′ (x .rv) ≡ ltb (x .r) (value (canon F st α) (boxes (st .outs)))) × (x .r ≡ U)
           f = found (λ y. α′ (y .rv) ≡ ltb (y .r) (value (canon F st α) (boxes (st .outs)))) U (st .recs) x (G .recs) e
 
-          mi-by : (q : Bool) → cond q (lit (nL (x .rv))) refused ≢ refused → T (ansB α′ (cond q (lit (nL (x .rv))) refused))
+          mi-by : (q : Bool) → cond q (lit (nL (x .rv))) unanswered ≢ unanswered → T (ansB α′ (cond q (lit (nL (x .rv))) unanswered))
           mi-by false k′ = absurd (k′ refl)
           mi-by true k′ = rw (f .0, canon-sum st α I, f .1, le-ltb U (weigh (leaf α) (st .done)) l) tt
 
-      pends : (ps : List Pending) → ifNone ps (upLit (lookup U (st .recs))) ≢ refused → weigh (leaf α) (st .done) + weigh (leaf α) ps ≤ U → T (ansB α′ (ifNone ps (upLit (lookup U (st .recs)))))
+      pends : (ps : List Pending) → ifNone ps (upLit (lookup U (st .recs))) ≢ unanswered → weigh (leaf α) (st .done) + weigh (leaf α) ps ≤ U → T (ansB α′ (ifNone ps (upLit (lookup U (st .recs)))))
       pends [] k l = rec (lookup U (st .recs)) refl k (omega arith)
       pends (p ∷ ps) k l = absurd (k refl)
 
-      go : (q : Bool) → cond q nothing (ifNone (st .pend) (upLit (lookup U (st .recs)))) ≢ refused → T (ansB α′ (cond q nothing (ifNone (st .pend) (upLit (lookup U (st .recs))))))
+      go : (q : Bool) → cond q unneeded (ifNone (st .pend) (upLit (lookup U (st .recs)))) ≢ unanswered → T (ansB α′ (cond q unneeded (ifNone (st .pend) (upLit (lookup U (st .recs))))))
       go true k = tt
       go false k = pends (st .pend) k h
 
-  lo-complete : (st : St) (L : ℕ) (α α′ : ℕ → Bool) → Inv F st → Fits F st α α′ → lower L st ≢ refused → L ≤ sumAll st α → T (ansB α′ (lower L st))
+  lo-complete : (st : St) (L : ℕ) (α α′ : ℕ → Bool) → Inv F st → Fits F st α α′ → lower L st ≢ unanswered → L ≤ sumAll st α → T (ansB α′ (lower L st))
   unfolding lower litTrue
   lo-complete st zero α α′ I G n h = tt
   lo-complete st (suc L) α α′ I G n h = go (ltb (totalSt st) (suc L)) n
     where
-      rec : (o : Option Rec) → lookup L (st .recs) ≡ o → loLit o ≢ refused → L < weigh (leaf α) (st .done) → T (ansB α′ (loLit o))
+      rec : (o : Option Rec) → lookup L (st .recs) ≡ o → loLit o ≢ unanswered → L < weigh (leaf α) (st .done) → T (ansB α′ (loLit o))
       rec none e k l = absurd (k refl)
       rec (some x) e k l = mo-by (x .mo) k
         where
           f : (α′ (x .rv) ≡ ltb (x .r) (value (canon F st α) (boxes (st .outs)))) × (x .r ≡ L)
           f = found (λ y. α′ (y .rv) ≡ ltb (y .r) (value (canon F st α) (boxes (st .outs)))) L (st .recs) x (G .recs) e
 
-          mo-by : (q : Bool) → cond q (lit (pL (x .rv))) refused ≢ refused → T (ansB α′ (cond q (lit (pL (x .rv))) refused))
+          mo-by : (q : Bool) → cond q (lit (pL (x .rv))) unanswered ≢ unanswered → T (ansB α′ (cond q (lit (pL (x .rv))) unanswered))
           mo-by false k′ = absurd (k′ refl)
           mo-by true k′ = rw (f .0, canon-sum st α I, f .1, lt-ltb L (weigh (leaf α) (st .done)) l) tt
 
-      pends : (ps : List Pending) → ifNone ps (loLit (lookup L (st .recs))) ≢ refused → suc L ≤ weigh (leaf α) (st .done) + weigh (leaf α) ps → T (ansB α′ (ifNone ps (loLit (lookup L (st .recs)))))
+      pends : (ps : List Pending) → ifNone ps (loLit (lookup L (st .recs))) ≢ unanswered → suc L ≤ weigh (leaf α) (st .done) + weigh (leaf α) ps → T (ansB α′ (ifNone ps (loLit (lookup L (st .recs)))))
       pends [] k l = rec (lookup L (st .recs)) refl k (omega arith)
       pends (p ∷ ps) k l = absurd (k refl)
 
-      go : (q : Bool) → cond q refused (ifNone (st .pend) (loLit (lookup L (st .recs)))) ≢ refused → T (ansB α′ (cond q refused (ifNone (st .pend) (loLit (lookup L (st .recs))))))
+      go : (q : Bool) → cond q unanswered (ifNone (st .pend) (loLit (lookup L (st .recs)))) ≢ unanswered → T (ansB α′ (cond q unanswered (ifNone (st .pend) (loLit (lookup L (st .recs))))))
       go true k = absurd (k refl)
       go false k = pends (st .pend) k h
 
@@ -239,7 +239,7 @@ module _ (F : ℕ) where
     pub upper-true : T (ansB choice (upper U st))
     pub lower-true : T (ansB choice (lower L st))
 
-  pub meaning : (st : St) → Inv F st → (U L : ℕ) → upper U st ≢ refused → lower L st ≢ refused → (α : ℕ → Bool)
+  pub meaning : (st : St) → Inv F st → (U L : ℕ) → upper U st ≢ unanswered → lower L st ≢ unanswered → (α : ℕ → Bool)
       → Extends st U L α ↔ ((L ≤ sumAll st α) × (sumAll st α ≤ U))
   meaning st I U L u l α = (
     λ x. (lo-sound st L α (x .choice) I (x .clauses) (x .same) (x .lower-true), up-sound st U α (x .choice) I (x .clauses) (x .same) (x .upper-true)),

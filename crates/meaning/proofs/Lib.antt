@@ -25,3 +25,4 @@ pub mod Adding
 pub mod Whole
 pub mod Ready
 pub mod Encoding
+pub mod Demand

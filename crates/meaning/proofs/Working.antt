@@ -27,12 +27,12 @@ use Rattle.meaning.proofs.Records.{markAt, putRec, newRec, find-from, f
 abbrev pub ofWork : Clauses → List Pending → ℕ → List ℕ → Work Clauses → St
 ofWork old done N os w = record { em = onSink (λ (cs : Clauses). old ++ cs) (w .em); N = N; outs = os; recs = recsOf (w .bounds) 0 (w .count); done = done; pend = [] }
 
-mark-is : (δ : Dir) (b : List ℕ) (i : ℕ) → markedIn δ (recordAt b i) ≡ mk δ (recAt b i)
+pub mark-is : (δ : Dir) (b : List ℕ) (i : ℕ) → markedIn δ (recordAt b i) ≡ mk δ (recAt b i)
 unfolding markedIn recordAt recAt
 mark-is iff b i = refl
 mark-is onlyif b i = refl
 
-rv-at : (b : List ℕ) (i : ℕ) → getD b (3 * i + 1) 0 ≡ recAt b i .rv
+pub rv-at : (b : List ℕ) (i : ℕ) → getD b (3 * i + 1) 0 ≡ recAt b i .rv
 unfolding recAt
 rv-at b i = refl
 

@@ -90,7 +90,7 @@ Extends F α m upper lower =
     (β : ℕ → Bool) × Agree F α β × (bufferTrue β m ≡ true) × (answerTrue β upper ≡ true) × (answerTrue β lower ≡ true)
 
 -- DEMAND 3
-pub Demand3 : Type 0
+unfoldable pub Demand3 : Type 0
 Demand3 =
     (F next : ℕ) (nodes bounds : List ℕ) (clauses : List ℤ) → inRange F ≡ true → F ≤ next
     → (calls : List Call) (u l : ℕ) (α : ℕ → Bool)

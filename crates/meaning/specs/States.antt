@@ -146,28 +146,28 @@ overSt st = record {
 
 -- enforcing: no literal needed, a literal, or no answer
 pub data Answer : Type 0 where
-  nothing : Answer
+  unneeded : Answer
   lit : Lit → Answer
-  refused : Answer
+  unanswered : Answer
 
 abbrev pub upLit : Option Rec → Answer
-upLit none = refused
-upLit (some x) = cond (x .mi) (lit (nL (x .rv))) refused
+upLit none = unanswered
+upLit (some x) = cond (x .mi) (lit (nL (x .rv))) unanswered
 
 abbrev pub loLit : Option Rec → Answer
-loLit none = refused
-loLit (some x) = cond (x .mo) (lit (pL (x .rv))) refused
+loLit none = unanswered
+loLit (some x) = cond (x .mo) (lit (pL (x .rv))) unanswered
 
 abbrev pub ifNone : List Pending → Answer → Answer
 ifNone [] a = a
-ifNone (t ∷ ts) a = refused
+ifNone (t ∷ ts) a = unanswered
 
 abbrev pub totalSt : St → ℕ
 totalSt st = weights (st .done) + weights (st .pend)
 
 unfoldable pub upper : ℕ → St → Answer
-upper U st = cond (leb (totalSt st) U) nothing (ifNone (st .pend) (upLit (lookup U (st .recs))))
+upper U st = cond (leb (totalSt st) U) unneeded (ifNone (st .pend) (upLit (lookup U (st .recs))))
 
 unfoldable pub lower : ℕ → St → Answer
-lower zero st = nothing
-lower (suc L) st = cond (ltb (totalSt st) (suc L)) refused (ifNone (st .pend) (loLit (lookup L (st .recs))))
+lower zero st = unneeded
+lower (suc L) st = cond (ltb (totalSt st) (suc L)) unanswered (ifNone (st .pend) (loLit (lookup L (st .recs))))
