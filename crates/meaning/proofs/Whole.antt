@@ -154,13 +154,13 @@ module _ (F : ℕ) where
 
     -- start over
     over-inv : Inv F (stOf (record {
-        party = overParty (m .party);
-        shared = record { fill = 0; left = m .shared .left };
-        next = m .next;
-        nodes = clearNodes (m .nodes) (m .party .nodes);
-        bounds = clearBounds (m .bounds) (m .party .bounds);
-        clauses = m .clauses;
-      }) done [])
+      party = overParty (m .party);
+      shared = record { fill = 0; left = m .shared .left };
+      next = m .next;
+      nodes = clearNodes (m .nodes) (m .party .nodes);
+      bounds = clearBounds (m .bounds) (m .party .bounds);
+      clauses = m .clauses;
+    }) done [])
     unfolding overParty pending overSt
     over-inv = rw (clear-recs (m .bounds) (m .party .bounds) (W .records)) (overSt-inv F (stOf m done cls) (W .inv))
 
