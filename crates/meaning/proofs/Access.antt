@@ -19,6 +19,22 @@ pub node-set : (t : List ℕ) (i x n : ℕ) → (8 * n ≢ i) → (8 * n + 1 ≢
 unfolding nodeAt
 node-set t i x n p q r s = rw (getD-set-other t i (8 * n) x 0 p, getD-set-other t i (8 * n + 1) x 0 q, getD-set-other t i (8 * n + 2) x 0 r, getD-set-other t i (8 * n + 3) x 0 s)
 
+-- a node's kind and third child as they stand: 2, or 1 and no third child
+abbrev pub Raw : List ℕ → ℕ → Type 0
+Raw t n = (getD t (8 * n) 0 ≡ 2) ⊎ ((getD t (8 * n) 0 ≡ 1) × (getD t (8 * n + 3) 0 ≡ 0))
+
+pub raw-set : (t : List ℕ) (i x n : ℕ) → (8 * n ≢ i) → (8 * n + 3 ≢ i) → Raw t n → Raw (set t i x) n
+raw-set t i x n p q r = rw (getD-set-other t i (8 * n) x 0 p, getD-set-other t i (8 * n + 3) x 0 q) r
+
+pub raw-setVar : (t : List ℕ) (β : Bit) (n x m : ℕ) → Raw t m → Raw (setVar t β n x) m
+unfolding setVar
+raw-setVar t sum n x m r = raw-set t (8 * n + 4) x m (omega arith) (omega arith) r
+raw-setVar t carry n x m r = raw-set t (8 * n + 5) x m (omega arith) (omega arith) r
+
+pub raw-setMark : (t : List ℕ) (β : Bit) (δ : Dir) (n m : ℕ) → Raw t m → Raw (setMark t β δ n) m
+unfolding setMark
+raw-setMark t β δ n m r = raw-set t (8 * n + 6) _ m (omega arith) (omega arith) r
+
 pub node-setVar : (t : List ℕ) (β : Bit) (n x m : ℕ) → nodeAt (setVar t β n x) m ≡ nodeAt t m
 unfolding setVar
 node-setVar t sum n x m = node-set t (8 * n + 4) x m (omega arith) (omega arith) (omega arith) (omega arith)

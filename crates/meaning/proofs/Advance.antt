@@ -139,6 +139,7 @@ module _ (F : ℕ) where
         lf-b = B .lf-b;
         lf-c = B .lf-c;
         nz = NZs-mono (e .next) (e .next + d) (omega arith) (e .sink) (B .nz);
+        raw = B .raw;
       };
       grow = record { node = λ m. refl; vars = λ β m h k. refl; marks = λ β δ m k. k; adds = λ α h. h; upto = omega arith };
       onward = λ v α C G. (α, record { val = G .val; holds = G .holds }, λ y h. refl);

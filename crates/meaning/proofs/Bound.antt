@@ -124,6 +124,7 @@ module _ (F : ℕ) where
       lf-b = B .lf-b;
       lf-c = B .lf-c;
       nz = NZs-append next (st .em .sink) new (NZs-mono (st .em .next) next up (st .em .sink) (B .nz)) (comp-nz next δ os r (pL rv) (outs-nz st δ next up I (st .outs) (I .kids) o) (rz, lo));
+      raw = B .raw;
     };
     right = λ γ δ′ m l k. OK-kept (st .N) F (st .em) e′ γ δ′ m l B g k (I .right γ δ′ m l k);
     kids = I .kids;

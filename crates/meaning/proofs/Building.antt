@@ -11,15 +11,16 @@ use lib.Dec.{T}
 use lib.ListN.{length, getD}
 use Rattle.model.specs.Logic.{Lit, pL, litTrue, variable, clausesTrue}
 use Rattle.model.specs.Signs.{Kind, half, full, Bit, sum, carry, Dir, iff, onlyif, signs, rowsAt}
-use Rattle.model.specs.Nodes.{halfNode, sumWord, carryWord, Node, nodeAt, var, marked, litBy, litAt, putNodes}
+use Rattle.model.specs.Nodes.{halfNode, kindNo, sumWord, carryWord, Node, nodeAt, var, marked, litBy, litAt, putNodes}
 use Rattle.model.specs.Buckets.{width, buckets, buildAll, structure, Made, build, Pending, pickBit, lows, highs, spread, join, fronts, boxes}
 use Rattle.model.specs.Emit.{Em, gateAt}
 use Rattle.model.specs.Bounds.{Clauses}
 use Rattle.meaning.specs.Worth.{weigh, value}
 use Rattle.meaning.specs.States.{Rec, St, built, buildSt}
 use Rattle.meaning.proofs.Sums.{Ord, nodeIn, nodeOut, Each, build-law, Fit, spread-law, join-law}
-use Rattle.meaning.proofs.Forms.{fuel, All, Alls, All-append, All-right, Downs, Bits, build-cover, Below, Stands, build-below, build-ones, boxes-fronts, build-keep, Kids, build-kids, Alls-map}
+use Rattle.meaning.proofs.Forms.{fuel, NoThird, NoThirds, build-thirds, All, Alls, All-append, All-right, Downs, Bits, build-cover, Below, Stands, build-below, build-ones, boxes-fronts, build-keep, Kids, build-kids, Alls-map}
 use Rattle.meaning.proofs.Ranges.{ForFull}
+use Rattle.meaning.proofs.Access.{Raw}
 use Rattle.meaning.proofs.Tables.{Put, puts}
 use Rattle.meaning.proofs.Emitting.{OutW, Lf, LfBy, Mk, MkBy, OK, KidBy, Kid, KnownBy, Known, Base, Good, known-mk}
 use Rattle.meaning.proofs.Canonical.{canonV, canon-below, canon-same, kid-up, kid-bit}
@@ -141,6 +142,32 @@ module _ (F : ℕ) where
       subst (λ (m : ℕ). Lf ((nodeAt t′ m) .a) × Lf ((nodeAt t′ m) .b) × ForFull ((nodeAt t′ m) .kind) (Lf ((nodeAt t′ m) .c))) e
       (rw (P .node-new (n - N) l′) (k .0 .1, k .1 .1, for-lf (nd .kind) (nd .c) (k .2)))
 
+  thirds-at : (nds : List Node) → NoThirds nds → (i : ℕ) → i < length nds → NoThird (getD nds i (halfNode 0 0))
+  thirds-at [] h i l = absurd (omega arith)
+  thirds-at (nd ∷ nds) h zero l = h .0
+  thirds-at (nd ∷ nds) h (suc i) l = thirds-at nds (h .1) i (omega arith)
+
+  raw-by-kind : (κ : Kind) (k c : ℕ) → k ≡ kindNo κ → (κ ≡ half → c ≡ 0) → (k ≡ 2) ⊎ ((k ≡ 1) × (c ≡ 0))
+  raw-by-kind half k c e h = inr (e, h refl)
+  raw-by-kind full k c e h = inl e
+
+  third-is : (t : List ℕ) (n : ℕ) → nodeAt t n .c ≡ getD t (8 * n + 3) 0
+  unfolding nodeAt
+  third-is t n = refl
+
+  new-raw : (t t′ : List ℕ) (N : ℕ) (made : List Node) → Put t N made t′ → NoThirds made → (n : ℕ) → (n < N → ⊥) → n < N + length made → Raw t′ n
+  new-raw t t′ N made P b n h l =
+      let e : N + (n - N) ≡ n = omega arith in
+      let l′ : n - N < length made = omega arith in
+      let nd = getD made (n - N) (halfNode 0 0) in
+      subst (λ (m : ℕ). Raw t′ m) e
+      (raw-by-kind (nd .kind) _ _ (P .kind-new (n - N) l′) (λ q. sym (third-is t′ (N + (n - N))) ∙ ap (λ (x : Node). x .c) (P .node-new (n - N) l′) ∙ thirds-at made b (n - N) l′ q))
+
+  old-raw : (t t′ : List ℕ) (N : ℕ) (made : List Node) → Put t N made t′ → (n : ℕ) → n < N → Raw t n → Raw t′ n
+  old-raw t t′ N made P n h r =
+      let c : getD t′ (8 * n + 3) 0 ≡ getD t (8 * n + 3) 0 = sym (third-is t′ n) ∙ ap (λ (x : Node). x .c) (P .node-old n h) ∙ third-is t n in
+      rw (P .kind-old n h, c) r
+
   Alls-out : (N : ℕ) (qs : List (List ℕ)) → Alls (Kid F N) qs → Alls Sound qs → Alls (OutW F N) qs
   Alls-out N [] h k = tt
   Alls-out N (q ∷ qs) h k = (go q (h .0) (k .0), Alls-out N qs (h .1) (k .1))
@@ -252,6 +279,7 @@ module _ (F : ℕ) where
       lf-b = λ n l. (lf n l (decLt n N)) .1;
       lf-c = λ n l. (lf n l (decLt n N)) .2;
       nz = B .nz;
+      raw = λ n l. raw-by n l (decLt n N);
     };
     right = λ γ δ m l c. right-by γ δ m l (decLt m N) c;
     kids = rw boxed (Alls-out N′ outs₀ kid-outs sound-outs);
@@ -320,6 +348,10 @@ module _ (F : ℕ) where
       lf : (n : ℕ) → n < N′ → Dec (n < N) → Lf ((nodeAt t′ n) .a) × Lf ((nodeAt t′ n) .b) × ForFull ((nodeAt t′ n) .kind) (Lf ((nodeAt t′ n) .c))
       lf n l (yes h) = rw (P .node-old n h) (B .lf-a n h, B .lf-b n h, B .lf-c n h)
       lf n l (no h) = new-lf t t′ N made P sound-kids n h l
+
+      raw-by : (n : ℕ) → n < N′ → Dec (n < N) → Raw t′ n
+      raw-by n l (yes h) = old-raw t t′ N made P n h (B .raw n h)
+      raw-by n l (no h) = new-raw t t′ N made P (build-thirds (fuel qs) N qs) n h l
 
       boxed : boxes (fronts outs₀) ≡ outs₀
       boxed = boxes-fronts outs₀ (build-ones (fuel qs) N qs (omega arith)) nz-outs

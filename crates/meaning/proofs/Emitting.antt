@@ -18,7 +18,7 @@ use Rattle.model.specs.Bounds.{plus1, follow, Clauses}
 use Rattle.meaning.specs.Worth.{b2n}
 use Rattle.meaning.proofs.Tests.{and-l, and-r, and-i, T-true, T-of}
 use Rattle.meaning.proofs.Rows.{third, gateB, rowsHold, rowsAt-is, gate-complete, rows-third}
-use Rattle.meaning.proofs.Access.{node-setVar, node-setMark, var-setMark, marked-setVar, var-setVar, var-kept, var-cases, marked-same, marked-cases, length-setVar, length-setMark}
+use Rattle.meaning.proofs.Access.{Raw, raw-setVar, raw-setMark, node-setVar, node-setMark, var-setMark, marked-setVar, var-setVar, var-kept, var-cases, marked-same, marked-cases, length-setVar, length-setMark}
 use Rattle.meaning.proofs.Comparing.{clauses-append}
 use Rattle.meaning.proofs.Ranges.{Lw, NZs, NZs-append, NZs-mono, ForFull, gate-nz}
 
@@ -155,6 +155,7 @@ module _ (N F : ℕ) where
     pub lf-b : (n : ℕ) → n < N → Lf ((nodeAt (e .table) n) .b)
     pub lf-c : (n : ℕ) → n < N → ForFull ((nodeAt (e .table) n) .kind) (Lf ((nodeAt (e .table) n) .c))
     pub nz : NZs (e .next) (e .sink)
+    pub raw : (n : ℕ) → n < N → Raw (e .table) n
 
   pub record Grow (e e′ : Em Clauses) : Type 0 where
     pub node : (m : ℕ) → nodeAt (e′ .table) m ≡ nodeAt (e .table) m
@@ -316,6 +317,7 @@ module _ (N F : ℕ) where
       lf-b = λ m h. rw (node-setVar (e .table) β n (e .next) m) (B .lf-b m h);
       lf-c = λ m h. rw (node-setVar (e .table) β n (e .next) m) (B .lf-c m h);
       nz = NZs-mono (e .next) (e .next + 1) (omega arith) (e .sink) (B .nz);
+      raw = λ m h. raw-setVar (e .table) β n (e .next) m (B .raw m h);
     };
     grow = record {
       node = λ m. node-setVar (e .table) β n (e .next) m;
@@ -394,6 +396,7 @@ module _ (N F : ℕ) where
       lf-b = λ m h. rw (node-setMark (e .table) β δ n m) (B .lf-b m h);
       lf-c = λ m h. rw (node-setMark (e .table) β δ n m) (B .lf-c m h);
       nz = B .nz;
+      raw = λ m h. raw-setMark (e .table) β δ n m (B .raw m h);
     };
     grow = record {
       node = λ m. node-setMark (e .table) β δ n m;
@@ -450,7 +453,7 @@ module _ (N F : ℕ) where
       → Mk (e .table) δ ((nodeAt (e .table) n) .a) → Mk (e .table) δ ((nodeAt (e .table) n) .b) → Mk (e .table) δ ((nodeAt (e .table) n) .c) → Post e (write follow β δ n e)
   unfolding write variable gateAt gate
   write-post β δ n e l B hv ma mb mc = record {
-    base = record { kids-a = B .kids-a; kids-b = B .kids-b; kids-c = B .kids-c; room = B .room; first = B .first; fresh = B .fresh; has = B .has; low = B .low; dep = dep′; lf-a = B .lf-a; lf-b = B .lf-b; lf-c = B .lf-c; nz = NZs-append (e .next) (e .sink) new (B .nz) nz-new };
+    base = record { kids-a = B .kids-a; kids-b = B .kids-b; kids-c = B .kids-c; room = B .room; first = B .first; fresh = B .fresh; has = B .has; low = B .low; dep = dep′; lf-a = B .lf-a; lf-b = B .lf-b; lf-c = B .lf-c; nz = NZs-append (e .next) (e .sink) new (B .nz) nz-new; raw = B .raw };
     grow = record { node = λ m. refl; vars = λ γ m h k. refl; marks = λ γ δ′ m k. k; adds = λ α h. and-l (clausesTrue α (e .sink)) (clausesTrue α new) (rw (clauses-append α (e .sink) new) at h); upto = omega arith };
     onward = λ v α C G. (α, record { val = G .val; holds = rw (clauses-append α (e .sink) new) (and-i (clausesTrue α (e .sink)) (clausesTrue α new) (G .holds) (fits v α C G)) }, λ y h. refl);
   }

@@ -8,6 +8,7 @@ use Prim.Native.Nat.{ℕ, zero, suc, _+_, _*_, _-_, _≤_, _<_}
 use native.Mathlib.Nat.{add-zero, add-suc, suc-add}
 use native.Mathlib.Omega.{arith}
 use lib.ListN.{length, length-append}
+use Rattle.model.specs.Signs.{half}
 use Rattle.model.specs.Nodes.{sumWord, carryWord, halfNode, fullNode, Node}
 use Rattle.model.specs.Buckets.{Drained, Made, drain, single, push, build, front, fronts, box, boxes, entries}
 use Rattle.meaning.proofs.Ranges.{ForFull}
@@ -246,3 +247,32 @@ module _ (Q : ℕ → Type 0) (qs-sum : (n : ℕ) → Q (sumWord n)) (qs-car : (
       let r = drain (length q) n q in
       let k = drain-keep (length q) n q (h .0) in
       (k .0, build-keep f (n + length (r .made)) (push (r .carries) qs) (push-in Q (r .carries) qs (k .1) (h .1)))
+
+-- a half node has no third child
+abbrev pub NoThird : Node → Type 0
+NoThird nd = nd .kind ≡ half → nd .c ≡ 0
+
+abbrev pub NoThirds : List Node → Type 0
+NoThirds [] = Unit {0}
+NoThirds (nd ∷ nds) = NoThird nd × NoThirds nds
+
+NoThirds-append : (xs ys : List Node) → NoThirds xs → NoThirds ys → NoThirds (xs ++ ys)
+NoThirds-append [] ys h k = k
+NoThirds-append (x ∷ xs) ys h k = (h .0, NoThirds-append xs ys (h .1) k)
+
+full-third : (a b c : ℕ) → NoThird (fullNode a b c)
+full-third a b c e = absurd (let z : _≡_ {A = ℕ} 0 1 = cc in omega arith)
+
+drain-thirds : (f n : ℕ) (q : List ℕ) → NoThirds ((drain f n q) .made)
+drain-thirds zero n q = tt
+drain-thirds (suc f) n [] = tt
+drain-thirds (suc f) n (a ∷ []) = tt
+drain-thirds (suc f) n (a ∷ (b ∷ [])) = (λ e. refl, tt)
+drain-thirds (suc f) n (a ∷ (b ∷ (c ∷ q))) = (full-third a b c, drain-thirds f (suc n) (q ++ (sumWord n ∷ [])))
+
+pub build-thirds : (f n : ℕ) (qs : List (List ℕ)) → NoThirds ((build f n qs) .made)
+build-thirds zero n qs = tt
+build-thirds (suc f) n [] = tt
+build-thirds (suc f) n (q ∷ qs) =
+    let r = drain (length q) n q in
+    NoThirds-append (r .made) _ (drain-thirds (length q) n q) (build-thirds f (n + length (r .made)) (push (r .carries) qs))

@@ -23,7 +23,7 @@ use Rattle.meaning.specs.States.{Rec, St, start, reserveSt, addSt, clear
 use Rattle.meaning.proofs.Sums.{Ord, nodeIn, nodeOut, Ord-refl}
 use Rattle.meaning.proofs.Forms.{All, Alls}
 use Rattle.meaning.proofs.Tables.{no-mark}
-use Rattle.meaning.proofs.Access.{node-set}
+use Rattle.meaning.proofs.Access.{Raw, raw-set, node-set}
 use Rattle.meaning.proofs.Emitting.{Kid, KidBy, Base, Known, KnownBy, Good, Res, Res-refl, Res-trans, Took, take-ok, same-word}
 use Rattle.meaning.proofs.Canonical.{canonV, canon-same}
 use Rattle.meaning.proofs.Invariant.{Leaf, Leaves, leafBy, leaf, AllR, RecOK, canon, Fits, Inv}
@@ -68,6 +68,7 @@ module _ (F : ℕ) where
       lf-b = λ n l. absurd (omega arith);
       lf-c = λ n l. absurd (omega arith);
       nz = tt;
+      raw = λ n l. absurd (omega arith);
     };
     right = λ γ δ m l k. absurd (omega arith);
     kids = tt;
@@ -189,6 +190,10 @@ clear-var t zero β m = refl
 clear-var t (suc n) sum m = getD-set-other (clearNodes t n) (8 * n + 6) (8 * m + 4) 0 0 (omega arith) ∙ clear-var t n sum m
 clear-var t (suc n) carry m = getD-set-other (clearNodes t n) (8 * n + 6) (8 * m + 5) 0 0 (omega arith) ∙ clear-var t n carry m
 
+clear-raw : (t : List ℕ) (n m : ℕ) → Raw t m → Raw (clearNodes t n) m
+clear-raw t zero m r = r
+clear-raw t (suc n) m r = raw-set (clearNodes t n) (8 * n + 6) 0 m (omega arith) (omega arith) (clear-raw t n m r)
+
 clear-length : (t : List ℕ) (n : ℕ) → length (clearNodes t n) ≡ length t
 clear-length t zero = refl
 clear-length t (suc n) = length-set (clearNodes t n) (8 * n + 6) 0 ∙ clear-length t n
@@ -239,6 +244,7 @@ module _ (F : ℕ) where
       lf-b = λ n l. rw (clear-node t (st .N) n) (B .lf-b n l);
       lf-c = λ n l. rw (clear-node t (st .N) n) (B .lf-c n l);
       nz = tt;
+      raw = λ n l. clear-raw t (st .N) n (B .raw n l);
     };
     right = λ γ δ m l k. absurd (none γ δ m l k);
     kids = I .kids;

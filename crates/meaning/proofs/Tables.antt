@@ -52,6 +52,12 @@ unfolding nodeAt
 node-in t n nd h =
     rw (at-0 (putNode t n nd) n, put-in t n nd 0 h (omega arith), put-in t n nd 1 h (omega arith), put-in t n nd 2 h (omega arith), put-in t n nd 3 h (omega arith), kind-back (nd .kind))
 
+kind-in : (t : List ℕ) (n : ℕ) (nd : Node) → 8 * n + 8 ≤ length t → getD (putNode t n nd) (8 * n) 0 ≡ kindNo (nd .kind)
+kind-in t n nd h = at-0 (putNode t n nd) n ∙ put-in t n nd 0 h (omega arith)
+
+kind-else : (t : List ℕ) (n : ℕ) (nd : Node) (m : ℕ) → m ≢ n → getD (putNode t n nd) (8 * m) 0 ≡ getD t (8 * m) 0
+kind-else t n nd m h = at-0 (putNode t n nd) m ∙ put-else t n nd m 0 h (omega arith) ∙ sym (at-0 t m)
+
 pub var-in : (t : List ℕ) (n : ℕ) (nd : Node) (β : Bit) → 8 * n + 8 ≤ length t → var (putNode t n nd) β n ≡ 0
 unfolding var
 var-in t n nd sum h = put-in t n nd 4 h (omega arith)
@@ -91,6 +97,8 @@ pub record Put (t : List ℕ) (n : ℕ) (nds : List Node) (t′ : List ℕ) : Ty
   pub node-new : (i : ℕ) → i < length nds → nodeAt t′ (n + i) ≡ getD nds i (halfNode 0 0)
   pub var-new : (β : Bit) (m : ℕ) → n ≤ m → m < n + length nds → var t′ β m ≡ 0
   pub mark-new : (β : Bit) (δ : Dir) (m : ℕ) → n ≤ m → m < n + length nds → marked t′ β δ m ≡ false
+  pub kind-old : (m : ℕ) → m < n → getD t′ (8 * m) 0 ≡ getD t (8 * m) 0
+  pub kind-new : (i : ℕ) → i < length nds → getD t′ (8 * (n + i)) 0 ≡ kindNo (getD nds i (halfNode 0 0) .kind)
   pub size : length t′ ≡ length t
 
 put-step : (t : List ℕ) (n : ℕ) (nd : Node) (nds : List Node) → 8 * (n + suc (length nds)) ≤ length t → Put (putNode t n nd) (suc n) nds (putNodes (putNode t n nd) (suc n) nds) → Put t n (nd ∷ nds) (putNodes t n (nd ∷ nds))
@@ -101,6 +109,8 @@ put-step t n nd nds h r = record {
   node-new = node-new′;
   var-new = λ β m k l. var-new′ β m k l (ℕ-discrete m n);
   mark-new = λ β δ m k l. mark-new′ β δ m k l (ℕ-discrete m n);
+  kind-old = λ m k. r .kind-old m (omega arith) ∙ kind-else t n nd m (ne m k);
+  kind-new = kind-new′;
   size = r .size ∙ length-put t n nd;
 }
   where
@@ -116,6 +126,10 @@ put-step t n nd nds h r = record {
     node-new′ : (i : ℕ) → i < suc (length nds) → nodeAt (putNodes t₁ (suc n) nds) (n + i) ≡ getD (nd ∷ nds) i (halfNode 0 0)
     node-new′ zero k = rw add-zero (r .node-old n (omega arith) ∙ node-in t n nd room)
     node-new′ (suc i) k = rw (add-suc n i, ← suc-add n i) (r .node-new i (omega arith))
+
+    kind-new′ : (i : ℕ) → i < suc (length nds) → getD (putNodes t₁ (suc n) nds) (8 * (n + i)) 0 ≡ kindNo (getD (nd ∷ nds) i (halfNode 0 0) .kind)
+    kind-new′ zero k = rw add-zero (r .kind-old n (omega arith) ∙ kind-in t n nd room)
+    kind-new′ (suc i) k = rw (add-suc n i, ← suc-add n i) (r .kind-new i (omega arith))
 
     var-new′ : (β : Bit) (m : ℕ) → n ≤ m → m < n + suc (length nds) → Dec (m ≡ n) → var (putNodes t₁ (suc n) nds) β m ≡ 0
     var-new′ β m k l (yes p) = rw p (r .var-old β n (omega arith) ∙ var-in t n nd β room)
@@ -133,6 +147,8 @@ puts t n [] h = record {
   node-new = λ i k. absurd (omega arith);
   var-new = λ β m k l. absurd (omega arith);
   mark-new = λ β δ m k l. absurd (omega arith);
+  kind-old = λ m k. refl;
+  kind-new = λ i k. absurd (omega arith);
   size = refl;
 }
 puts t n (nd ∷ nds) h = put-step t n nd nds h (puts (putNode t n nd) (suc n) nds (rw (length-put t n nd) (omega arith)))
