@@ -186,16 +186,16 @@ module _ (F : ℕ) where
     before-is : behind (before b) ≡ stOf b done cls
     before-is = rw (append-nil, pending-nil (b .party) none)
 
-    encoded-whole : (ups downs : List ℕ) → All (λ r. r < weights done) ups → All (λ r. r < weights done) downs → Room (ups ++ downs) (before b)
+    encoded-whole : (limit : ℕ) (ups downs : List ℕ) → All (λ r. r < weights done) ups → All (λ r. r < weights done) downs → Room limit (ups ++ downs) (before b)
         → work ups downs b .em .next ≤ greatest + 1 → b .shared .fill + length (flat (work ups downs b .em .sink)) ≤ length (b .clauses)
         → Whole F (worked (work ups downs b) b) done (cls ++ work ups downs b .em .sink)
     unfolding work
-    encoded-whole ups downs hu hd R g f =
-        let s = stages-are cls done (b .party .nodes) (present (b .party .outputs)) ups downs (before b) R in
+    encoded-whole limit ups downs hu hd R g f =
+        let s = stages-are cls done (b .party .nodes) (present (b .party .outputs)) limit ups downs (before b) R in
         let I : Inv F (behind (before b)) = rw before-is (W .inv) in
         let U = encodeSt-inv iff ups (behind (before b)) hu I in
         let D = encodeSt-inv onlyif downs (encodeSt iff ups (behind (before b))) (rw (encodeSt-done iff ups (behind (before b))) hd) U in
-        worked-whole (work ups downs b) (rw (s .0) D) (s .1) g f
+        worked-whole (work ups downs b) (rw (s .is) D) (omega (arith, s .few, s .long)) g f
 
     -- the numbers that are reserved
     reserved-inv : Inv F (behind (reservedWork b))
@@ -241,12 +241,13 @@ module _ (F : ℕ) where
     totals : (R : Ready F m (built m) done cls) → totalOf (m .party) ≡ weights (R .done′)
     totals R = sym (R .total) ∙ total-nil (built m .party) (R .none) ∙ R .whole .built
 
-    room : (ups downs : List ℕ) → recordsAfter ups downs m ≤ min mostBounds (length (m .bounds) / 3) → Room (ups ++ downs) (before (built m))
+    room : (ups downs : List ℕ) → recordsAfter ups downs m ≤ min mostBounds (length (m .bounds) / 3) → Room (min mostBounds (length (m .bounds) / 3)) (ups ++ downs) (before (built m))
     unfolding recordsAfter
     room ups downs h = record {
       known = known m;
       same = λ u. ap (elem u) (sym values);
-      fits = omega (arith, h, ap length (built-bounds m), values-length (built m .bounds) 0 (built m .party .bounds), ap length values);
+      fits = omega (arith, h, values-length (built m .bounds) 0 (built m .party .bounds), ap length values);
+      long = omega (arith, ap length (built-bounds m));
     }
       where
         values : valuesFrom (built m .bounds) 0 (built m .party .bounds) ≡ known m
@@ -272,7 +273,7 @@ module _ (F : ℕ) where
             record {
               done′ = R .done′;
               cls′ = cls ++ w .em .sink;
-              whole = encoded-whole (built m) (R .done′) cls (R .whole) (R .none) ups downs (rw (totals R) at hu) (rw (totals R) at hd) (room ups downs r) g (rw (built-shared m, built-clauses m) f);
+              whole = encoded-whole (built m) (R .done′) cls (R .whole) (R .none) _ ups downs (rw (totals R) at hu) (rw (totals R) at hd) (room ups downs r) g (rw (built-shared m, built-clauses m) f);
               sum = λ α. worked-sum (built m) (R .done′) cls (R .whole) (R .none) w α ∙ R .sum α ∙ none-more α (sumAll (stOf m done cls) α);
             }
 

@@ -19,7 +19,8 @@ use Rattle.model.specs.Emit.{Em}
 use Rattle.model.specs.Compare.{outLits, comparator}
 use Rattle.model.specs.Machine.{recordAt, dirPlace, markedIn, findFrom, find}
 use Rattle.model.specs.Bounds.{valuesFrom, elem, missing, Work, recorded, compared, boundAll, emitted, stage, plus1, follow, Clauses}
-use Rattle.model.proofs.Emission.{onSink, emit-map}
+use Rattle.model.proofs.Emission.{onSink, emit-map, emit-rises}
+use Rattle.model.proofs.Literals.{by-test}
 use Rattle.meaning.specs.States.{Rec, St, recAt, recsOf, mk, setMk, markRec, lookup, boundBy, boundSt, bounds, writeBound, emitSt, encodeSt}
 use Rattle.meaning.proofs.Records.{markAt, putRec, newRec, find-from, found-at, not-found, mark-at, put-at, new-rec, found-new, mark-last, found-known, values-mark, values-put}
 
@@ -40,11 +41,12 @@ no-mk : (δ : Dir) (r rv : ℕ) → mk δ (newRec r rv) ≡ false
 no-mk iff r rv = refl
 no-mk onlyif r rv = refl
 
--- room for a record of each value that has none
-pub record Room (vs : List ℕ) (w : Work Clauses) : Type 0 where
+-- room for a record of each value that has none, where there may be so many records
+pub record Room (limit : ℕ) (vs : List ℕ) (w : Work Clauses) : Type 0 where
   pub known : List ℕ
   pub same : (u : ℕ) → elem u known ≡ elem u (valuesFrom (w .bounds) 0 (w .count))
-  pub fits : 3 * (w .count + missing known vs) ≤ length (w .bounds)
+  pub fits : w .count + missing known vs ≤ limit
+  pub long : 3 * limit ≤ length (w .bounds)
 
 elem-last : (u v : ℕ) (xs : List ℕ) → elem u (xs ++ (v ∷ [])) ≡ eqb v u || elem u xs
 elem-last u v [] = refl
@@ -54,7 +56,7 @@ elem-last u v (x ∷ xs) = ap (λ (q : Bool). eqb x u || q) (elem-last u v xs) �
     swap true b c = sym (or-true b)
     swap false b c = refl
 
-module _ (old : Clauses) (done : List Pending) (N : ℕ) (os : List ℕ) where
+module _ (old : Clauses) (done : List Pending) (N : ℕ) (os : List ℕ) (limit : ℕ) where
   emitted-is : (δ : Dir) (w : Work Clauses) → ofWork old done N os (emitted plus1 follow δ N os w) ≡ emitSt δ (ofWork old done N os w)
   unfolding emitted emitSt
   emitted-is δ w =
@@ -151,18 +153,19 @@ module _ (old : Clauses) (done : List Pending) (N : ℕ) (os : List ℕ) where
               ∙ ap (markRec δ v) (put-at b n v next r)
               ∙ mark-last δ v (recsOf b 0 n) (newRec v next) (not-found b v 0 n (h ∙ sym (zero-add n))) refl
 
-  compared-room : (δ : Dir) (v : ℕ) (vs : List ℕ) (w : Work Clauses) → Room vs w → Room vs (compared follow δ os v w)
+  compared-room : (δ : Dir) (v : ℕ) (vs : List ℕ) (w : Work Clauses) → Room limit vs w → Room limit vs (compared follow δ os v w)
   compared-room δ v vs w R = rw (compared-at δ v w i refl) (go (mk δ (recAt (w .bounds) i)))
     where
       i : ℕ
       i = find (w .bounds) (w .count) v
 
-      go : (q : Bool) → Room vs (cond q w (written δ v i w))
+      go : (q : Bool) → Room limit vs (cond q w (written δ v i w))
       go true = R
       go false = record {
         known = R .known;
         same = λ u. R .same u ∙ ap (elem u) (sym (values-mark (w .bounds) δ i 0 (w .count)));
-        fits = rw (length-set (w .bounds) (3 * i + 2)) (R .fits);
+        fits = R .fits;
+        long = rw (length-set (w .bounds) (3 * i + 2)) (R .long);
       }
 
   recorded-is : (v : ℕ) (w : Work Clauses) → recorded plus1 v w ≡ cond (ltb (find (w .bounds) (w .count) v) (w .count)) w (appended v w)
@@ -177,54 +180,55 @@ module _ (old : Clauses) (done : List Pending) (N : ℕ) (os : List ℕ) where
   unfolding find
   is-known v w known e = e ∙ found-known (w .bounds) v 0 (w .count) ∙ ap (ltb (findFrom (w .bounds) v 0 (w .count))) (zero-add (w .count))
 
-  appended-room : (v : ℕ) (vs : List ℕ) (w : Work Clauses) (R : Room (v ∷ vs) w) → 3 * (w .count + suc (missing (v ∷ R .known) vs)) ≤ length (w .bounds) → Room vs (appended v w)
+  appended-room : (v : ℕ) (vs : List ℕ) (w : Work Clauses) (R : Room limit (v ∷ vs) w) → w .count + suc (missing (v ∷ R .known) vs) ≤ limit → Room limit vs (appended v w)
   appended-room v vs w R h = record {
     known = v ∷ R .known;
     same = λ u. ap (λ (q : Bool). eqb v u || q) (R .same u) ∙ sym (elem-last u v (valuesFrom (w .bounds) 0 (w .count))) ∙ ap (elem u) (sym values);
-    fits = rw (length-sets (w .bounds) (3 * w .count) (v ∷ w .em .next ∷ 0 ∷ [])) (omega arith);
+    fits = omega arith;
+    long = rw (length-sets (w .bounds) (3 * w .count) (v ∷ w .em .next ∷ 0 ∷ [])) (R .long);
   }
     where
       values : valuesFrom (putRec (w .bounds) (w .count) v (w .em .next)) 0 (w .count + 1) ≡ valuesFrom (w .bounds) 0 (w .count) ++ (v ∷ [])
-      values = rw add-one (values-put (w .bounds) (w .count) v (w .em .next) (omega arith))
+      values = rw add-one (values-put (w .bounds) (w .count) v (w .em .next) (omega (arith, R .long)))
 
   pub record Bound (δ : Dir) (vs rest : List ℕ) (w w′ : Work Clauses) : Type 0 where
     pub is : ofWork old done N os w′ ≡ bounds δ vs (ofWork old done N os w)
-    pub room : Room rest w′
+    pub room : Room limit rest w′
 
-  bound-is : (δ : Dir) (v : ℕ) (vs : List ℕ) (w : Work Clauses) → Room (v ∷ vs) w → Bound δ (v ∷ []) vs w (compared follow δ os v (recorded plus1 v w))
+  bound-is : (δ : Dir) (v : ℕ) (vs : List ℕ) (w : Work Clauses) → Room limit (v ∷ vs) w → Bound δ (v ∷ []) vs w (compared follow δ os v (recorded plus1 v w))
   bound-is δ v vs w R = rw (recorded-is v w) (go (ltb (find (w .bounds) (w .count) v) (w .count)) refl)
     where
-      count-by : (q : Bool) → ltb (find (w .bounds) (w .count) v) (w .count) ≡ q → 3 * (w .count + cond q (missing (R .known) vs) (suc (missing (v ∷ R .known) vs))) ≤ length (w .bounds)
+      count-by : (q : Bool) → ltb (find (w .bounds) (w .count) v) (w .count) ≡ q → w .count + cond q (missing (R .known) vs) (suc (missing (v ∷ R .known) vs)) ≤ limit
       count-by q e = rw (is-known v w (R .known) (R .same v) ∙ e) at (R .fits)
 
       go : (q : Bool) → ltb (find (w .bounds) (w .count) v) (w .count) ≡ q → Bound δ (v ∷ []) vs w (compared follow δ os v (cond q w (appended v w)))
       go true e =
-          let h : 3 * (w .count + missing (R .known) vs) ≤ length (w .bounds) = count-by true e in
+          let h : w .count + missing (R .known) vs ≤ limit = count-by true e in
           record {
-            is = known-is δ v w (ltb-true _ _ e) (omega arith);
-            room = compared-room δ v vs w (record { known = R .known; same = R .same; fits = h });
+            is = known-is δ v w (ltb-true _ _ e) (omega (arith, R .long));
+            room = compared-room δ v vs w (record { known = R .known; same = R .same; fits = h; long = R .long });
           }
       go false e =
-          let h : 3 * (w .count + suc (missing (v ∷ R .known) vs)) ≤ length (w .bounds) = count-by false e in
+          let h : w .count + suc (missing (v ∷ R .known) vs) ≤ limit = count-by false e in
           record {
-            is = fresh-is δ v w (find-most (w .bounds) (w .count) v (ltb-false _ _ e)) (omega arith);
+            is = fresh-is δ v w (find-most (w .bounds) (w .count) v (ltb-false _ _ e)) (omega (arith, R .long));
             room = compared-room δ v vs (appended v w) (appended-room v vs w R h);
           }
 
-  all-is : (δ : Dir) (vs rest : List ℕ) (w : Work Clauses) → Room (vs ++ rest) w → Bound δ vs rest w (boundAll plus1 follow δ os vs w)
+  all-is : (δ : Dir) (vs rest : List ℕ) (w : Work Clauses) → Room limit (vs ++ rest) w → Bound δ vs rest w (boundAll plus1 follow δ os vs w)
   all-is δ [] rest w R = record { is = refl; room = R }
   all-is δ (v ∷ vs) rest w R =
       let b = bound-is δ v (vs ++ rest) w R in
       let a = all-is δ vs rest (compared follow δ os v (recorded plus1 v w)) (b .room) in
       record { is = a .is ∙ ap (bounds δ vs) (b .is); room = a .room }
 
-  emitted-room : (δ : Dir) (vs : List ℕ) (w : Work Clauses) → Room vs w → Room vs (emitted plus1 follow δ N os w)
+  emitted-room : (δ : Dir) (vs : List ℕ) (w : Work Clauses) → Room limit vs w → Room limit vs (emitted plus1 follow δ N os w)
   unfolding emitted
-  emitted-room δ vs w R = record { known = R .known; same = R .same; fits = R .fits }
+  emitted-room δ vs w R = record { known = R .known; same = R .same; fits = R .fits; long = R .long }
 
   -- one direction of an encoding
-  stage-is : (δ : Dir) (vs rest : List ℕ) (w : Work Clauses) → Room (vs ++ rest) w
-      → (ofWork old done N os (stage plus1 follow follow δ N os vs w) ≡ encodeSt δ vs (ofWork old done N os w)) × Room rest (stage plus1 follow follow δ N os vs w)
+  stage-is : (δ : Dir) (vs rest : List ℕ) (w : Work Clauses) → Room limit (vs ++ rest) w
+      → (ofWork old done N os (stage plus1 follow follow δ N os vs w) ≡ encodeSt δ vs (ofWork old done N os w)) × Room limit rest (stage plus1 follow follow δ N os vs w)
   unfolding stage
   stage-is δ [] rest w R = (refl, R)
   stage-is δ (v ∷ vs) rest w R =
@@ -232,11 +236,39 @@ module _ (old : Clauses) (done : List Pending) (N : ℕ) (os : List ℕ) where
       (a .is ∙ ap (bounds δ (v ∷ vs)) (emitted-is δ w), a .room)
 
   -- both directions
-  pub stages-are : (ups downs : List ℕ) (w : Work Clauses) → Room (ups ++ downs) w
-      → let w′ = stage plus1 follow follow onlyif N os downs (stage plus1 follow follow iff N os ups w) in
-      (ofWork old done N os w′ ≡ encodeSt onlyif downs (encodeSt iff ups (ofWork old done N os w))) × (3 * w′ .count ≤ length (w′ .bounds))
+  pub record Stages (ups downs : List ℕ) (w w′ : Work Clauses) : Type 0 where
+    pub is : ofWork old done N os w′ ≡ encodeSt onlyif downs (encodeSt iff ups (ofWork old done N os w))
+    pub few : w′ .count ≤ limit
+    pub long : 3 * limit ≤ length (w′ .bounds)
+
+  pub stages-are : (ups downs : List ℕ) (w : Work Clauses) → Room limit (ups ++ downs) w → Stages ups downs w (stage plus1 follow follow onlyif N os downs (stage plus1 follow follow iff N os ups w))
   stages-are ups downs w R =
       let u = stage-is iff ups downs w R in
-      let w₁ = stage plus1 follow follow iff N os ups w in
-      let d = stage-is onlyif downs [] w₁ (rw append-nil (u .1)) in
-      (d .0 ∙ ap (encodeSt onlyif downs) (u .0), omega (arith, d .1 .fits))
+      let d = stage-is onlyif downs [] (stage plus1 follow follow iff N os ups w) (rw append-nil (u .1)) in
+      record { is = d .0 ∙ ap (encodeSt onlyif downs) (u .0); few = omega (arith, d .1 .fits); long = d .1 .long }
+
+-- the next number never falls
+plus1-rises : (n : ℕ) → n ≤ plus1 n
+plus1-rises n = omega arith
+
+recorded-rises : (v : ℕ) (w : Work Clauses) → w .em .next ≤ recorded plus1 v w .em .next
+unfolding recorded
+recorded-rises v w = by-test (λ (x : Work Clauses). w .em .next ≤ x .em .next) (ltb (find (w .bounds) (w .count) v) (w .count)) (λ e. omega arith) (λ e. omega arith)
+
+compared-next : (δ : Dir) (os : List ℕ) (v : ℕ) (w : Work Clauses) → compared follow δ os v w .em .next ≡ w .em .next
+unfolding compared
+compared-next δ os v w = by-test (λ (x : Work Clauses). x .em .next ≡ w .em .next) (markedIn δ (recordAt (w .bounds) (find (w .bounds) (w .count) v))) (λ e. refl) (λ e. refl)
+
+all-rises : (δ : Dir) (os vs : List ℕ) (w : Work Clauses) → w .em .next ≤ boundAll plus1 follow δ os vs w .em .next
+all-rises δ os [] w = omega arith
+all-rises δ os (v ∷ vs) w =
+    omega (arith, recorded-rises v w, compared-next δ os v (recorded plus1 v w), all-rises δ os vs (compared follow δ os v (recorded plus1 v w)))
+
+emitted-rises : (δ : Dir) (N : ℕ) (os : List ℕ) (w : Work Clauses) → w .em .next ≤ emitted plus1 follow δ N os w .em .next
+unfolding emitted
+emitted-rises δ N os w = emit-rises plus1 plus1-rises follow δ N os (w .em)
+
+pub stage-rises : (δ : Dir) (N : ℕ) (os vs : List ℕ) (w : Work Clauses) → w .em .next ≤ stage plus1 follow follow δ N os vs w .em .next
+unfolding stage
+stage-rises δ N os [] w = omega arith
+stage-rises δ N os (v ∷ vs) w = omega (arith, emitted-rises δ N os w, all-rises δ os (v ∷ vs) (emitted plus1 follow δ N os w))
