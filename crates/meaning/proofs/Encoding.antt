@@ -7,11 +7,11 @@ use native.Mathlib.Omega.{arith}
 use borrow.Author.Tests.{ltb-false, le-leb}
 use lib.Dec.{ltb, leb}
 use lib.IntN.{ℤ}
-use lib.ListN.{length, take, drop}
+use lib.ListN.{length, take, length-append}
 use lib.Seq.{sets, length-sets, take-add}
 use Rattle.model.specs.Limits.{greatest, inRange, mostBounds}
 use Rattle.model.specs.Logic.{Lit, variable, isLit, weightedSum}
-use Rattle.model.specs.Words.{flat}
+use Rattle.model.specs.Words.{clauseWords, flat}
 use Rattle.model.specs.Replies.{Reply}
 use Rattle.model.specs.Signs.{Dir, iff, onlyif}
 use Rattle.model.specs.Buckets.{Pending, boxes, ifPending, present}
@@ -21,7 +21,7 @@ use Rattle.model.specs.Bounds.{Range, run, upValues, downValues, valuesFrom, el
 use Rattle.model.specs.Damage.{allDamaged}
 use Rattle.model.specs.Calls.{built, tooWide, noNodes, Replied, replied, leaving, known, recordsAfter, work, worked, encodeValues, encodeAsked, encode, reserving, reserveCall}
 use Rattle.model.proofs.Buffer.{sets-before, sets-stand}
-use Rattle.model.proofs.Emission.{onSink, reserve-map, reserve-leaves, flat-append}
+use Rattle.model.proofs.Emission.{onSink, reserve-map, reserve-leaves, reserve-rises, flat-append}
 use Rattle.meaning.specs.Truth.{areLits, areClauses}
 use Rattle.meaning.specs.Worth.{weigh, weights}
 use Rattle.meaning.specs.States.{St, stOf, emitSt, encodeSt, bounds, reserveSt}
@@ -33,7 +33,7 @@ use Rattle.meaning.proofs.Advance.{emitSt-ok}
 use Rattle.meaning.proofs.Simple.{reserveSt-inv}
 use Rattle.meaning.proofs.Bound.{bounds-inv, bounds-keep}
 use Rattle.meaning.proofs.Adding.{weighed-is}
-use Rattle.meaning.proofs.Working.{ofWork, Room, stages-are}
+use Rattle.meaning.proofs.Working.{ofWork, Room, stages-are, stage-rises}
 use Rattle.meaning.proofs.Whole.{Whole, Step, by-test₁, refused-step}
 use Rattle.meaning.proofs.Ready.{Ready, ready}
 
@@ -82,6 +82,17 @@ words-after : (cl ws vs : List ℤ) (f : ℕ) → take f cl ≡ vs → f + lengt
 words-after cl ws vs f e h =
     take-add f (length ws) (sets cl f ws)
     ∙ ap₂ _++_ (sets-before ws cl f f (omega arith) ∙ e) (sets-stand ws cl f (length ws) refl h)
+
+-- a clause has a word at least
+clause-length : (c : List Lit) → 1 ≤ length (clauseWords c)
+unfolding clauseWords
+clause-length [] = omega arith
+clause-length (l ∷ c) = omega arith
+
+flat-length : (cs : Clauses) → length cs ≤ length (flat cs)
+unfolding flat
+flat-length [] = omega arith
+flat-length (c ∷ cs) = omega (arith, clause-length c, flat-length cs, length-append (clauseWords c) (flat cs))
 
 -- the values that are asked are below the total
 run-below : (r n m : ℕ) → r + n ≤ m → All (λ x. x < m) (run r n)
@@ -161,10 +172,10 @@ module _ (F : ℕ) where
     unfolding worked
     worked-inv w I = rw (worked-pend w) I
 
-    worked-whole : (w : Work Clauses) → Inv F (behind w) → 3 * w .count ≤ length (w .bounds) → w .em .next ≤ greatest + 1
+    worked-whole : (w : Work Clauses) → Inv F (behind w) → w .count ≤ mostBounds → 3 * w .count ≤ length (w .bounds) → b .next ≤ w .em .next → w .em .next ≤ greatest + 1
         → b .shared .fill + length (flat (w .em .sink)) ≤ length (b .clauses) → Whole F (worked w b) done (cls ++ w .em .sink)
     unfolding worked totalOf pending
-    worked-whole w I r g f = record {
+    worked-whole w I n r u g f = record {
       inv = worked-inv w I;
       limit = W .limit;
       built = W .built;
@@ -176,6 +187,16 @@ module _ (F : ℕ) where
       within = rw (length-sets (b .clauses) (b .shared .fill) (flat (w .em .sink))) f;
       words = words-after (b .clauses) (flat (w .em .sink)) (flat cls) (b .shared .fill) (W .words) f ∙ sym (flat-append cls (w .em .sink));
       range = clauses-range (w .em .next) (cls ++ w .em .sink) g (I .base .nz);
+      tidy = record {
+        left = omega arith;
+        drawn = omega (arith, W .tidy .left, W .tidy .drawn);
+        heavy = W .tidy .heavy;
+        shape = W .tidy .shape;
+        wide = W .tidy .wide;
+        nodes = W .tidy .nodes;
+        bounds = n;
+        clauses = omega (arith, W .tidy .clauses, flat-length (w .em .sink));
+      };
     }
 
     worked-sum : (w : Work Clauses) (α : ℕ → Bool) → sumAll (stOf (worked w b) done (cls ++ w .em .sink)) α ≡ weigh (leaf α) done
@@ -186,16 +207,18 @@ module _ (F : ℕ) where
     before-is : behind (before b) ≡ stOf b done cls
     before-is = rw (append-nil, pending-nil (b .party) none)
 
-    encoded-whole : (limit : ℕ) (ups downs : List ℕ) → All (λ r. r < weights done) ups → All (λ r. r < weights done) downs → Room limit (ups ++ downs) (before b)
+    encoded-whole : (limit : ℕ) → limit ≤ mostBounds → (ups downs : List ℕ) → All (λ r. r < weights done) ups → All (λ r. r < weights done) downs → Room limit (ups ++ downs) (before b)
         → work ups downs b .em .next ≤ greatest + 1 → b .shared .fill + length (flat (work ups downs b .em .sink)) ≤ length (b .clauses)
         → Whole F (worked (work ups downs b) b) done (cls ++ work ups downs b .em .sink)
     unfolding work
-    encoded-whole limit ups downs hu hd R g f =
+    encoded-whole limit most ups downs hu hd R g f =
+        let os = present (b .party .outputs) in
+        let rises : b .next ≤ work ups downs b .em .next = omega (arith, stage-rises iff (b .party .nodes) os ups (before b), stage-rises onlyif (b .party .nodes) os downs (stage plus1 follow follow iff (b .party .nodes) os ups (before b))) in
         let s = stages-are cls done (b .party .nodes) (present (b .party .outputs)) limit ups downs (before b) R in
         let I : Inv F (behind (before b)) = rw before-is (W .inv) in
         let U = encodeSt-inv iff ups (behind (before b)) hu I in
         let D = encodeSt-inv onlyif downs (encodeSt iff ups (behind (before b))) (rw (encodeSt-done iff ups (behind (before b))) hd) U in
-        worked-whole (work ups downs b) (rw (s .is) D) (omega (arith, s .few, s .long)) g f
+        worked-whole (work ups downs b) (rw (s .is) D) (omega (arith, s .few)) (omega (arith, s .few, s .long)) rises g f
 
     -- the numbers that are reserved
     reserved-inv : Inv F (behind (reservedWork b))
@@ -212,9 +235,13 @@ module _ (F : ℕ) where
     unfolding reserving
     reserved-sink = reserve-leaves plus1 (b .party .nodes) (present (b .party .outputs)) (record { table = b .nodes; next = b .next; sink = [] })
 
+    reserved-rises : b .next ≤ reserving b .next
+    unfolding reserving
+    reserved-rises = reserve-rises plus1 (λ n. omega arith) (b .party .nodes) (present (b .party .outputs)) (record { table = b .nodes; next = b .next; sink = [] })
+
     reserved-whole : reserving b .next ≤ greatest + 1 → Whole F (worked (reservedWork b) b) done (cls ++ reserving b .sink)
     unfolding flat
-    reserved-whole g = worked-whole (reservedWork b) reserved-inv (W .records) g (rw reserved-sink (omega (arith, W .within)))
+    reserved-whole g = worked-whole (reservedWork b) reserved-inv (W .tidy .bounds) (W .records) reserved-rises g (rw reserved-sink (omega (arith, W .within)))
 
   module _ (m : Machine) (done : List Pending) (cls : Clauses) (W : Whole F m done cls) where
     leaving-step : Step F m (leaving m) done cls []
@@ -234,6 +261,16 @@ module _ (F : ℕ) where
         within = W .within;
         words = W .words;
         range = W .range;
+        tidy = record {
+          left = omega arith;
+          drawn = omega (arith, W .tidy .left, W .tidy .drawn);
+          heavy = W .tidy .heavy;
+          shape = W .tidy .shape;
+          wide = W .tidy .wide;
+          nodes = W .tidy .nodes;
+          bounds = W .tidy .bounds;
+          clauses = W .tidy .clauses;
+        };
       };
       sum = λ α. omega arith;
     }
@@ -273,7 +310,7 @@ module _ (F : ℕ) where
             record {
               done′ = R .done′;
               cls′ = cls ++ w .em .sink;
-              whole = encoded-whole (built m) (R .done′) cls (R .whole) (R .none) _ ups downs (rw (totals R) at hu) (rw (totals R) at hd) (room ups downs r) g (rw (built-shared m, built-clauses m) f);
+              whole = encoded-whole (built m) (R .done′) cls (R .whole) (R .none) _ (omega arith) ups downs (rw (totals R) at hu) (rw (totals R) at hd) (room ups downs r) g (rw (built-shared m, built-clauses m) f);
               sum = λ α. worked-sum (built m) (R .done′) cls (R .whole) (R .none) w α ∙ R .sum α ∙ none-more α (sumAll (stOf m done cls) α);
             }
 

@@ -133,10 +133,10 @@ module _ (F : ℕ) (m : Machine) (done : List Pending) (cls : Clauses) (W : Whol
       rw (present-back (fronts (made .outs)) (omega (arith, fronts-length (made .outs))))
       (buildSt-inv F (stOf m done cls) (W .inv) (width-fit ps (present (m .party .outputs)) (omega (arith, W .limit, totals))) r)
 
-  after-ready : length (made .outs) ≤ mostOutputs → 8 * (m .party .nodes + length (made .made)) ≤ length (m .nodes)
+  after-ready : length (made .outs) ≤ mostOutputs → 8 * (m .party .nodes + length (made .made)) ≤ length (m .nodes) → m .party .nodes + length (made .made) ≤ mostNodes
       → Ready F m (after (record { table = putNodes (m .nodes) (m .party .nodes) (made .made); outputs = outputsOf (fronts (made .outs)); nodes = m .party .nodes + length (made .made) })) done cls
   unfolding ps totalOf pending pendingOf weighed
-  after-ready h r = record {
+  after-ready h r k = record {
     done′ = done ++ ps;
     whole = record {
       inv = after-inv h r;
@@ -150,11 +150,24 @@ module _ (F : ℕ) (m : Machine) (done : List Pending) (cls : Clauses) (W : Whol
       within = W .within;
       words = W .words;
       range = W .range;
+      tidy = record {
+        left = W .tidy .left;
+        drawn = W .tidy .drawn;
+        heavy = tt;
+        shape = ap outputsOf (sym (present-back (fronts (made .outs)) few));
+        wide = rw (present-back (fronts (made .outs)) few) few;
+        nodes = k;
+        bounds = omega arith;
+        clauses = W .tidy .clauses;
+      };
     };
     none = refl;
     total = omega arith;
     sum = λ α. weigh-append (leaf α) done ps;
   }
+    where
+      few : length (fronts (made .outs)) ≤ mostOutputs
+      few = omega (arith, fronts-length (made .outs))
 
   built-is : built m ≡ ifPending ps m (after (extend ps (m .party .outputs) (m .party .nodes) (m .nodes)))
   unfolding built ps
@@ -174,4 +187,4 @@ module _ (F : ℕ) (m : Machine) (done : List Pending) (cls : Clauses) (W : Whol
         total = refl;
         sum = λ α. rw e (omega arith);
       }
-      go (u ∷ us) e h k = rw (extend-some ps (m .party .outputs) (m .party .nodes) (m .nodes) u us e) (after-ready h (omega arith))
+      go (u ∷ us) e h k = rw (extend-some ps (m .party .outputs) (m .party .nodes) (m .nodes) u us e) (after-ready h (omega arith) (omega arith))

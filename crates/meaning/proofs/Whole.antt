@@ -1,24 +1,25 @@
 -- What holds of the machine after any calls; a new encoder, a refused call, an added list, a moved source and a start over keep it.
 -- Assumes nothing.
 use mathlib.Core.Path.{_≡_, refl, sym, ap, _∙_}
+use mathlib.Core.Logic.{_≢_}
 use mathlib.Core.Bool.{Bool, true, false, cond, _||_}
 use mathlib.Core.List.{List, [], _∷_, _++_, map}
 use Prim.Native.Nat.{ℕ, zero, suc, _+_, _*_, _≤_, _<_}
 use native.Mathlib.Omega.{arith}
-use borrow.Author.Tests.{ltb-false}
-use lib.Dec.{eqb, ltb}
+use borrow.Author.Tests.{eqb-false, ltb-false}
+use lib.Dec.{eqb, ltb, leb}
 use lib.IntN.{ℤ}
 use lib.ListN.{length, take, length-replicate}
 use lib.Seq.{sets, length-sets}
-use Rattle.model.specs.Limits.{inRange, mostTerms, mostTotal, mostOutputs}
-use Rattle.model.specs.Logic.{Term, total, weightedSum}
+use Rattle.model.specs.Limits.{inRange, mostTerms, mostTotal, mostOutputs, mostNodes, mostBounds}
+use Rattle.model.specs.Logic.{variable, Term, total, weightedSum}
 use Rattle.model.specs.Words.{flat}
 use Rattle.model.specs.Replies.{Reply, number, Accepted, BadTerm, SumTooLarge, PendingFull, Damaged}
-use Rattle.model.specs.Buckets.{Pending, present}
-use Rattle.model.specs.Machine.{Party, Machine, pendingOf, pending, weighed, totalOf, emptyParty, asPending, addAll, weightsOf, wordsOf}
+use Rattle.model.specs.Buckets.{Pending, present, outputsOf}
+use Rattle.model.specs.Machine.{Party, Machine, pendingOf, pending, weighed, totalOf, emptyParty, addTo, asPending, addAll, weightsOf, wordsOf}
 use Rattle.model.specs.Bounds.{Clauses}
 use Rattle.model.specs.Damage.{partyDamaged, tablesDamaged}
-use Rattle.model.specs.Calls.{start, firstBadTerm, withPending, Added, added, add, Replied, replied, clearNodes, clearBounds, overParty, startOver}
+use Rattle.model.specs.Calls.{start, badTerm, firstBadTerm, withPending, Added, added, add, Replied, replied, clearNodes, clearBounds, overParty, startOver}
 use Rattle.model.proofs.Literals.{by-test, range}
 use Rattle.meaning.specs.Truth.{areClauses}
 use Rattle.meaning.specs.Histories.{withParty, moved, fresh}
@@ -29,7 +30,22 @@ use Rattle.meaning.proofs.Answers.{sumAll}
 use Rattle.meaning.proofs.Advance.{raiseSt-inv}
 use Rattle.meaning.proofs.Simple.{start-inv, addAll-leaves, addSt-inv, addAll-sum, overSt-inv}
 use Rattle.meaning.proofs.Records.{clear-bounds-length, clear-recs}
-use Rattle.meaning.proofs.Adding.{weighed-is, addAll-weights, sum-is, good-leaves, pending-put}
+use Rattle.meaning.proofs.Adding.{weighed-is, addAll-weights, sum-is, neither, good-leaves, pending-put}
+
+abbrev pub Heavy : List Pending → Type 0
+Heavy [] = Unit {0}
+Heavy (t ∷ ts) = (t .weight ≢ 0) × Heavy ts
+
+-- what the words of the state keep beside their meaning, so that no test finds them damaged
+pub record Tidy (F : ℕ) (m : Machine) : Type 0 where
+  pub left : m .shared .left ≤ m .next
+  pub drawn : F + m .party .drawn ≤ m .shared .left
+  pub heavy : Heavy (pending (m .party))
+  pub shape : m .party .outputs ≡ outputsOf (present (m .party .outputs))
+  pub wide : length (present (m .party .outputs)) ≤ mostOutputs
+  pub nodes : m .party .nodes ≤ mostNodes
+  pub bounds : m .party .bounds ≤ mostBounds
+  pub clauses : m .party .clauses ≤ m .shared .fill
 
 pub record Whole (F : ℕ) (m : Machine) (done : List Pending) (cls : Clauses) : Type 1 where
   pub inv : Inv F (stOf m done cls)
@@ -43,6 +59,7 @@ pub record Whole (F : ℕ) (m : Machine) (done : List Pending) (cls : Clauses) :
   pub within : m .shared .fill ≤ length (m .clauses)
   pub words : take (m .shared .fill) (m .clauses) ≡ flat cls
   pub range : areClauses cls ≡ true
+  pub tidy : Tidy F m
 
 -- a call that adds the terms ts
 pub record Step (F : ℕ) (m m′ : Machine) (done : List Pending) (cls : Clauses) (ts : List Term) : Type 1 where
@@ -51,6 +68,33 @@ pub record Step (F : ℕ) (m m′ : Machine) (done : List Pending) (cls : Clause
   pub whole : Whole F m′ done′ cls′
   pub sum : (α : ℕ → Bool) → sumAll (stOf m′ done′ cls′) α ≡ weightedSum α ts + sumAll (stOf m done cls) α
 
+-- no pending term has weight 0
+good-weight : (F : ℕ) (t : Term) → badTerm F t ≡ false → asPending t .weight ≢ 0
+unfolding badTerm asPending
+good-weight F t e =
+    let p = neither (eqb (t .weight) 0 || eqb (variable (t .lit)) 0) (leb F (variable (t .lit))) e in
+    eqb-false (t .weight) 0 (neither (eqb (t .weight) 0) (eqb (variable (t .lit)) 0) (p .0) .0)
+
+addTo-heavy : (t : Pending) (ps : List Pending) → t .weight ≢ 0 → Heavy ps → Heavy (addTo t ps)
+addTo-heavy t [] h k = (h, tt)
+addTo-heavy t (u ∷ us) h k = go (eqb (u .word) (t .word)) (addTo-heavy t us h (k .1))
+  where
+    more : u .weight + t .weight ≢ 0
+    more e = h (omega arith)
+
+    go : (q : Bool) → Heavy (addTo t us) → Heavy (cond q (record { weight = u .weight + t .weight; word = u .word } ∷ us) (u ∷ addTo t us))
+    go true r = (more, k .1)
+    go false r = (k .0, r)
+
+addAll-heavy : (F : ℕ) (ts : List Term) (ps : List Pending) → length ts ≤ firstBadTerm F ts → Heavy ps → Heavy (addAll ts ps)
+addAll-heavy F [] ps h k = k
+addAll-heavy F (t ∷ ts) ps h k = go (badTerm F t) refl h (λ g e. addAll-heavy F ts (addTo (asPending t) ps) g (addTo-heavy (asPending t) ps (good-weight F t e) k))
+  where
+    go : (q : Bool) → badTerm F t ≡ q → suc (length ts) ≤ cond q 0 (suc (firstBadTerm F ts)) → (length ts ≤ firstBadTerm F ts → badTerm F t ≡ false → Heavy (addAll ts (addTo (asPending t) ps)))
+        → Heavy (addAll ts (addTo (asPending t) ps))
+    go true e g ih = absurd (omega arith)
+    go false e g ih = ih (omega arith) e
+
 -- what holds of each choice, under its test, holds of the chosen one
 pub by-test₁ : {A : Type 0} (P : A → Type 1) (t : Bool) {x y : A} → (t ≡ true → P x) → (t ≡ false → P y) → P (cond t x y)
 by-test₁ P true f g = f refl
@@ -58,7 +102,7 @@ by-test₁ P false f g = g refl
 
 module _ (F : ℕ) where
   pub fresh-whole : (next : ℕ) (nodes bounds : List ℕ) (clauses : List ℤ) → inRange F ≡ true → F ≤ next → Whole F (fresh F next nodes bounds clauses) [] []
-  unfolding fresh start emptyParty totalOf pending pendingOf weighed present flat areClauses
+  unfolding fresh start emptyParty totalOf pending pendingOf weighed present outputsOf flat areClauses
   fresh-whole next nodes bounds clauses e h = rw e (record {
     inv = start-inv F next nodes (range F e .0) h;
     limit = omega arith;
@@ -71,6 +115,7 @@ module _ (F : ℕ) where
     within = omega arith;
     words = refl;
     range = refl;
+    tidy = record { left = h; drawn = omega arith; heavy = tt; shape = refl; wide = omega arith; nodes = omega arith; bounds = omega arith; clauses = omega arith };
   })
 
   module _ (m : Machine) (done : List Pending) (cls : Clauses) (W : Whole F m done cls) where
@@ -95,6 +140,16 @@ module _ (F : ℕ) where
         within = W .within;
         words = W .words;
         range = W .range;
+        tidy = record {
+          left = omega (arith, W .tidy .left);
+          drawn = W .tidy .drawn;
+          heavy = W .tidy .heavy;
+          shape = W .tidy .shape;
+          wide = W .tidy .wide;
+          nodes = W .tidy .nodes;
+          bounds = W .tidy .bounds;
+          clauses = W .tidy .clauses;
+        };
       };
       sum = λ α. omega arith;
     }
@@ -117,6 +172,10 @@ module _ (F : ℕ) where
       unfolding withParty withPending addSt ps
       put-inv = rw back (addSt-inv F ps (stOf m done cls) (addAll-leaves F ts (pending (m .party)) (rw (W .first) at (good-leaves (m .party .first) ts good)) (W .inv .pends)) (W .inv))
 
+      put-heavy : Heavy (pending (withPending ps (m .party)))
+      unfolding ps
+      put-heavy = rw back (addAll-heavy (m .party .first) ts (pending (m .party)) good (W .tidy .heavy))
+
       put-sum : (α : ℕ → Bool) → sumAll (stOf (withParty (withPending ps (m .party)) m) done cls) α ≡ weightedSum α ts + sumAll (stOf m done cls) α
       unfolding withParty withPending ps
       put-sum α = rw back (omega (arith, addAll-sum F (leaf α) ts (pending (m .party)), sum-is α ts))
@@ -138,6 +197,16 @@ module _ (F : ℕ) where
           within = W .within;
           words = W .words;
           range = W .range;
+          tidy = record {
+            left = W .tidy .left;
+            drawn = W .tidy .drawn;
+            heavy = put-heavy;
+            shape = W .tidy .shape;
+            wide = W .tidy .wide;
+            nodes = W .tidy .nodes;
+            bounds = W .tidy .bounds;
+            clauses = W .tidy .clauses;
+          };
         };
         sum = put-sum;
       }
@@ -182,6 +251,16 @@ module _ (F : ℕ) where
             within = omega arith;
             words = refl;
             range = refl;
+            tidy = record {
+              left = W .tidy .left;
+              drawn = W .tidy .drawn;
+              heavy = W .tidy .heavy;
+              shape = W .tidy .shape;
+              wide = W .tidy .wide;
+              nodes = W .tidy .nodes;
+              bounds = W .tidy .bounds;
+              clauses = omega arith;
+            };
           };
           sum = λ α. omega arith;
         })
