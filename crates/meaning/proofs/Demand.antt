@@ -53,7 +53,7 @@ module _ (F : ℕ) where
   sum-append α (t ∷ ts) us = omega (arith, sum-append α ts us)
 
   -- all calls
-  calls-step : (cs : List Call) (m : Machine) (done : List Pending) (cls : Clauses) → Whole F m done cls → Step F m (afterAll cs m) done cls (allTaken cs m)
+  pub calls-step : (cs : List Call) (m : Machine) (done : List Pending) (cls : Clauses) → Whole F m done cls → Step F m (afterAll cs m) done cls (allTaken cs m)
   calls-step [] m done cls W = refused-step F m done cls W
   calls-step (c ∷ cs) m done cls W =
       let s = call-step c m done cls W in

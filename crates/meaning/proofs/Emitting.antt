@@ -426,7 +426,7 @@ module _ (N F : ℕ) where
       marks-by γ δ′ m k (inr q) = rw q k
 
   -- the clauses of a bit whose children and own variable stand
-  known-bit : (t : List ℕ) (β : Bit) (n : ℕ) → n < N → var t β n ≢ 0 → Known t (bitW β n)
+  pub known-bit : (t : List ℕ) (β : Bit) (n : ℕ) → n < N → var t β n ≢ 0 → Known t (bitW β n)
   unfolding sumWord carryWord
   known-bit t sum n l h = rw (m4, d4) (l, h)
     where

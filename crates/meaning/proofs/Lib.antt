@@ -26,3 +26,5 @@ pub mod Whole
 pub mod Ready
 pub mod Encoding
 pub mod Demand
+pub mod Undamaged
+pub mod Corollaries

@@ -2,6 +2,7 @@
 -- and, for the proof of DEMAND 3, what buckets are worth and the encoder's state as lists.
 pub mod Truth
 pub mod Histories
+pub mod Corollaries
 pub mod Starred
 pub mod Worth
 pub mod States
