@@ -3,7 +3,7 @@
 use mathlib.Core.Path.{_≡_, refl, sym, ap, _∙_}
 use mathlib.Core.Bool.{Bool, true, false, _||_, or-true}
 use mathlib.Core.List.{List, []}
-use Prim.Native.Nat.{ℕ, _+_}
+use Prim.Native.Nat.{ℕ, _+_, _≤_}
 use borrow.Author.Tests.{ltb-false}
 use lib.Dec.{ltb}
 use Rattle.model.specs.Limits.{greatest}
@@ -13,7 +13,7 @@ use Rattle.meaning.specs.Histories.{Demand3, afterAll, fresh}
 use Rattle.meaning.specs.Corollaries.{SameChoices, Undamaged}
 use Rattle.meaning.proofs.Whole.{fresh-whole}
 use Rattle.meaning.proofs.Demand.{calls-step, demand3}
-use Rattle.meaning.proofs.Undamaged.{all-good}
+use Rattle.meaning.proofs.Undamaged.{tables-good, all-good}
 
 pub same-choices : SameChoices
 unfolding SameChoices Demand3
@@ -28,13 +28,13 @@ past m e = rw (e, or-true, or-true)
 
 pub undamaged : Undamaged
 unfolding Undamaged
-undamaged F next nodes bounds clauses e h calls = go (ltb (greatest + 1) (m .next)) refl
+undamaged F next nodes bounds clauses e h calls =
+    let s = calls-step F calls (fresh F next nodes bounds clauses) [] [] (fresh-whole F next nodes bounds clauses e h) in
+    (tables-good F e m (s .done′) (s .cls′) (s .whole), go (ltb (greatest + 1) (m .next)) refl (all-good F e m (s .done′) (s .cls′) (s .whole)))
   where
     m : Machine
     m = afterAll calls (fresh F next nodes bounds clauses)
 
-    go : (q : Bool) → ltb (greatest + 1) (m .next) ≡ q → allDamaged m ≡ q
-    go true d = past m d
-    go false d =
-        let s = calls-step F calls (fresh F next nodes bounds clauses) [] [] (fresh-whole F next nodes bounds clauses e h) in
-        all-good F e m (s .done′) (s .cls′) (s .whole) (ltb-false _ _ d)
+    go : (q : Bool) → ltb (greatest + 1) (m .next) ≡ q → (m .next ≤ greatest + 1 → allDamaged m ≡ false) → allDamaged m ≡ q
+    go true d g = past m d
+    go false d g = g (ltb-false _ _ d)

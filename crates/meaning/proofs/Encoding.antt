@@ -1,39 +1,43 @@
 -- Encoding and reserving keep the machine's invariant. Assumes nothing.
-use mathlib.Core.Path.{_≡_, refl, sym, ap, ap₂, _∙_}
-use mathlib.Core.Bool.{Bool, true, false, cond, _&&_}
+use mathlib.Core.Path.{_≡_, refl, sym, ap, ap₂, _∙_, subst}
+use mathlib.Core.Bool.{Bool, true, false, _&&_, _||_}
 use mathlib.Core.List.{List, [], _∷_, _++_, append-nil}
 use Prim.Native.Nat.{ℕ, zero, suc, _+_, _*_, _-_, _/_, _≤_, _<_, min, max}
+use native.Mathlib.Decide.{ℕ-discrete}
+use native.Mathlib.Nat.{add-zero, add-suc, suc-add}
 use native.Mathlib.Omega.{arith}
 use borrow.Author.Tests.{ltb-false, le-leb}
 use lib.Dec.{ltb, leb}
 use lib.IntN.{ℤ}
-use lib.ListN.{length, take, length-append}
+use lib.ListN.{length, getD, take, length-append}
 use lib.Seq.{sets, length-sets, take-add}
 use Rattle.model.specs.Limits.{greatest, inRange, mostBounds}
 use Rattle.model.specs.Logic.{Lit, variable, isLit, weightedSum}
 use Rattle.model.specs.Words.{clauseWords, flat}
 use Rattle.model.specs.Replies.{Reply}
-use Rattle.model.specs.Signs.{Dir, iff, onlyif}
+use Rattle.model.specs.Signs.{Bit, Dir, iff, onlyif}
+use Rattle.model.specs.Nodes.{var}
 use Rattle.model.specs.Buckets.{Pending, boxes, ifPending, present}
 use Rattle.model.specs.Emit.{Em, reserveAll}
 use Rattle.model.specs.Machine.{Party, Shared, Machine, pendingOf, pending, weighed, totalOf}
 use Rattle.model.specs.Bounds.{Range, run, upValues, downValues, valuesFrom, elem, missing, Work, stage, plus1, follow, Clauses}
-use Rattle.model.specs.Damage.{allDamaged}
+use Rattle.model.specs.Damage.{bufferDamaged, sourceDamaged, tablesDamaged, allDamaged}
 use Rattle.model.specs.Calls.{built, tooWide, noNodes, Replied, replied, leaving, known, recordsAfter, work, worked, encodeValues, encodeAsked, encode, reserving, reserveCall}
 use Rattle.model.proofs.Buffer.{sets-before, sets-stand}
 use Rattle.model.proofs.Emission.{onSink, reserve-map, reserve-leaves, reserve-rises, flat-append}
 use Rattle.meaning.specs.Truth.{areLits, areClauses}
 use Rattle.meaning.specs.Worth.{weigh, weights}
-use Rattle.meaning.specs.States.{St, stOf, emitSt, encodeSt, bounds, reserveSt}
+use Rattle.meaning.specs.States.{Rec, St, recAt, recsOf, stOf, emitSt, encodeSt, bounds, reserveSt}
 use Rattle.meaning.proofs.Forms.{All}
 use Rattle.meaning.proofs.Ranges.{Lw, NZc, NZs}
-use Rattle.meaning.proofs.Invariant.{leaf, Inv}
+use Rattle.meaning.proofs.Emitting.{bitW, lit-bitW, known-bit}
+use Rattle.meaning.proofs.Invariant.{leaf, AllR, RecOK, Inv}
 use Rattle.meaning.proofs.Answers.{sumAll}
 use Rattle.meaning.proofs.Advance.{emitSt-ok}
 use Rattle.meaning.proofs.Simple.{reserveSt-inv}
 use Rattle.meaning.proofs.Bound.{bounds-inv, bounds-keep}
-use Rattle.meaning.proofs.Adding.{weighed-is}
-use Rattle.meaning.proofs.Working.{ofWork, Room, stages-are, stage-rises}
+use Rattle.meaning.proofs.Adding.{neither}
+use Rattle.meaning.proofs.Working.{rv-at, ofWork, Room, stages-are, stage-rises}
 use Rattle.meaning.proofs.Whole.{Whole, Step, by-test₁, refused-step}
 use Rattle.meaning.proofs.Ready.{Ready, ready}
 
@@ -148,6 +152,38 @@ emit-done : (δ : Dir) (st : St) → emitSt δ st .done ≡ st .done
 unfolding emitSt
 emit-done δ st = refl
 
+-- the records' variables
+recs-at : (P : Rec → Type 0) (t : List ℕ) (i n : ℕ) → AllR P (recsOf t i n) → (j : ℕ) → j < n → P (recAt t (i + j))
+recs-at P t i zero h j l = absurd (omega arith)
+recs-at P t i (suc n) h zero l = rw add-zero (h .0)
+recs-at P t i (suc n) h (suc j) l = rw (add-suc i j, ← suc-add i j) (recs-at P t (suc i) n (h .1) j (omega arith))
+
+-- a machine that is not damaged has its source within its range
+not-past : (m : Machine) → allDamaged m ≡ false → m .next ≤ greatest + 1
+unfolding allDamaged sourceDamaged
+not-past m e =
+    let p = neither (tablesDamaged m || bufferDamaged (m .party) (m .shared) (m .clauses)) (ltb (m .next) (m .shared .left) || ltb (greatest + 1) (m .next)) e in
+    ltb-false (greatest + 1) (m .next) (neither (ltb (m .next) (m .shared .left)) (ltb (greatest + 1) (m .next)) (p .1) .1)
+
+module _ (F : ℕ) (st : St) (I : Inv F st) (low : st .em .next ≤ greatest + 1) where
+  vars-most : (β : Bit) (n : ℕ) → n < st .N → var (st .em .table) β n ≤ greatest
+  unfolding variable
+  vars-most β n l = go (ℕ-discrete (var (st .em .table) β n) 0)
+    where
+      go : Dec (var (st .em .table) β n ≡ 0) → var (st .em .table) β n ≤ greatest
+      go (yes e) = omega arith
+      go (no e) =
+          let h = I .base .low (bitW β n) (known-bit (st .N) F (st .em .table) β n l e) in
+          let k : var (st .em .table) β n < st .em .next = rw (lit-bitW (st .em .table) β n) at h in
+          omega arith
+
+  recs-most : (b : List ℕ) (n : ℕ) → st .recs ≡ recsOf b 0 n → (i : ℕ) → i < n → getD b (3 * i + 1) 0 ≤ greatest
+  recs-most b n e i l =
+      let R = recs-at (RecOK F st) b 0 n (subst (AllR (RecOK F st)) e (I .recs)) i l in
+      let z : 0 + i ≡ i = omega arith in
+      let h : recAt b i .rv < st .em .next = rw z at (R .low) in
+      omega (arith, rv-at b i)
+
 module _ (F : ℕ) where
   encodeSt-inv : (δ : Dir) (rs : List ℕ) (st : St) → All (λ r. r < weights (st .done)) rs → Inv F st → Inv F (encodeSt δ rs st)
   encodeSt-inv δ [] st h I = I
@@ -196,6 +232,9 @@ module _ (F : ℕ) where
         nodes = W .tidy .nodes;
         bounds = n;
         clauses = omega (arith, W .tidy .clauses, flat-length (w .em .sink));
+        low = g;
+        vars = vars-most F (behind w) I g;
+        recs = recs-most F (behind w) I g (w .bounds) (w .count) refl;
       };
     }
 
@@ -244,9 +283,9 @@ module _ (F : ℕ) where
     reserved-whole g = worked-whole (reservedWork b) reserved-inv (W .tidy .bounds) (W .records) reserved-rises g (rw reserved-sink (omega (arith, W .within)))
 
   module _ (m : Machine) (done : List Pending) (cls : Clauses) (W : Whole F m done cls) where
-    leaving-step : Step F m (leaving m) done cls []
+    leaving-step : m .next ≤ greatest + 1 → Step F m (leaving m) done cls []
     unfolding leaving weightedSum
-    leaving-step = record {
+    leaving-step low = record {
       done′ = done;
       cls′ = cls;
       whole = record {
@@ -270,6 +309,9 @@ module _ (F : ℕ) where
           nodes = W .tidy .nodes;
           bounds = W .tidy .bounds;
           clauses = W .tidy .clauses;
+          low = low;
+          vars = W .tidy .vars;
+          recs = W .tidy .recs;
         };
       };
       sum = λ α. omega arith;
@@ -314,16 +356,16 @@ module _ (F : ℕ) where
               sum = λ α. worked-sum (built m) (R .done′) cls (R .whole) (R .none) w α ∙ R .sum α ∙ none-more α (sumAll (stOf m done cls) α);
             }
 
-    asked-step : (ups downs : List ℕ) → All (λ r. r < totalOf (m .party)) ups → All (λ r. r < totalOf (m .party)) downs → Step F m (encodeAsked ups downs m .machine) done cls []
-    asked-step [] [] hu hd = leaving-step
-    asked-step [] (v ∷ vs) hu hd = values-step [] (v ∷ vs) hu hd
-    asked-step (v ∷ vs) downs hu hd = values-step (v ∷ vs) downs hu hd
+    asked-step : m .next ≤ greatest + 1 → (ups downs : List ℕ) → All (λ r. r < totalOf (m .party)) ups → All (λ r. r < totalOf (m .party)) downs → Step F m (encodeAsked ups downs m .machine) done cls []
+    asked-step low [] [] hu hd = leaving-step low
+    asked-step low [] (v ∷ vs) hu hd = values-step [] (v ∷ vs) hu hd
+    asked-step low (v ∷ vs) downs hu hd = values-step (v ∷ vs) downs hu hd
 
     pub encode-step : (up down : Range) → Step F m (encode up down m .machine) done cls []
     unfolding encode
     encode-step up down =
         by-test₁ (λ (r : Replied). Step F m (r .machine) done cls []) (allDamaged m) (λ e. refused-step F m done cls W) (λ e.
-        asked-step (upValues up (totalOf (m .party))) (downValues down (totalOf (m .party))) (up-below up (totalOf (m .party))) (down-below down (totalOf (m .party))))
+        asked-step (not-past m e) (upValues up (totalOf (m .party))) (downValues down (totalOf (m .party))) (up-below up (totalOf (m .party))) (down-below down (totalOf (m .party))))
 
     pub reserve-step : Step F m (reserveCall m .machine) done cls []
     unfolding reserveCall

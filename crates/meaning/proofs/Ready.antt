@@ -4,13 +4,15 @@ use mathlib.Core.Bool.{Bool, true, false, cond}
 use mathlib.Core.List.{List, [], _∷_, _++_}
 use Prim.Native.Nat.{ℕ, zero, suc, _+_, _*_, _/_, _≤_, _<_, _^_, min, max}
 use native.Mathlib.Nat.{pow-le-pow-right}
+use native.Mathlib.Decide.{decLt}
 use native.Mathlib.Omega.{arith}
 use borrow.Author.Tests.{eqb-true, ltb-false}
 use lib.Dec.{eqb, ltb}
 use lib.ListN.{length, take, replicate, length-replicate}
 use lib.Seq.{sets}
-use Rattle.model.specs.Limits.{mostTerms, mostTotal, mostOutputs, mostNodes}
-use Rattle.model.specs.Nodes.{putNodes}
+use Rattle.model.specs.Limits.{greatest, mostTerms, mostTotal, mostOutputs, mostNodes}
+use Rattle.model.specs.Signs.{Bit}
+use Rattle.model.specs.Nodes.{Node, putNodes, var}
 use Rattle.model.specs.Buckets.{Pending, bits, heaviest, width, Made, front, fronts, structure, ifPending, positionsAfter, nodesAfter, Outputs, present, outputsOf, Extended, extend}
 use Rattle.model.specs.Machine.{Party, Machine, pendingOf, pending, weighed, totalOf}
 use Rattle.model.specs.Bounds.{Clauses}
@@ -18,6 +20,7 @@ use Rattle.model.specs.Calls.{built, tooWide, noNodes}
 use Rattle.model.proofs.Buffer.{sets-stand}
 use Rattle.meaning.specs.Worth.{weigh, weights}
 use Rattle.meaning.specs.States.{St, stOf, buildSt}
+use Rattle.meaning.proofs.Tables.{puts}
 use Rattle.meaning.proofs.Sums.{Fit}
 use Rattle.meaning.proofs.Invariant.{leaf, Inv}
 use Rattle.meaning.proofs.Answers.{sumAll}
@@ -85,6 +88,12 @@ extend-some ps os n t u us e =
     let m : Made = structure ps (present os) n in
     let new : Extended = record { table = putNodes t n (m .made); outputs = outputsOf (fronts (m .outs)); nodes = n + length (m .made) } in
     ap (λ (qs : List Pending). ifPending qs (record { table = t; outputs = os; nodes = n }) new) e
+
+-- new nodes have no variable
+vars-put : (t : List ℕ) (N : ℕ) (made : List Node) → 8 * (N + length made) ≤ length t → ((β : Bit) (n : ℕ) → n < N → var t β n ≤ greatest)
+    → (β : Bit) (n : ℕ) → n < N + length made → Dec (n < N) → var (putNodes t N made) β n ≤ greatest
+vars-put t N made r h β n l (yes k) = rw (puts t N made r .var-old β n k) (h β n k)
+vars-put t N made r h β n l (no k) = rw (puts t N made r .var-new β n (omega arith) l) (omega arith)
 
 pub record Ready (F : ℕ) (m b : Machine) (done : List Pending) (cls : Clauses) : Type 1 where
   pub done′ : List Pending
@@ -159,6 +168,9 @@ module _ (F : ℕ) (m : Machine) (done : List Pending) (cls : Clauses) (W : Whol
         nodes = k;
         bounds = omega arith;
         clauses = W .tidy .clauses;
+        low = W .tidy .low;
+        vars = λ β n l. vars-put (m .nodes) (m .party .nodes) (made .made) r (W .tidy .vars) β n l (decLt n (m .party .nodes));
+        recs = λ i l. absurd (omega arith);
       };
     };
     none = refl;

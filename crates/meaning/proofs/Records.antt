@@ -190,6 +190,9 @@ clear-else : (b : List ℕ) (n k : ℕ) → ((i : ℕ) → i < n → k ≢ 3 * i
 clear-else b zero k h = refl
 clear-else b (suc n) k h = getD-set-other (clearBounds b n) (3 * n + 2) k 0 0 (h n (omega arith)) ∙ clear-else b n k (λ i l. h i (omega arith))
 
+pub clear-variable : (b : List ℕ) (n i : ℕ) → getD (clearBounds b n) (3 * i + 1) 0 ≡ getD b (3 * i + 1) 0
+clear-variable b n i = clear-else b n (3 * i + 1) (λ j k. omega arith)
+
 clear-mark : (b : List ℕ) (n i : ℕ) → i < n → 3 * n ≤ length b → getD (clearBounds b n) (3 * i + 2) 0 ≡ 0
 clear-mark b zero i l r = absurd (omega arith)
 clear-mark b (suc n) i l r = go (ℕ-discrete i n) (λ k. clear-mark b n i k (omega arith))
@@ -200,7 +203,7 @@ clear-mark b (suc n) i l r = go (ℕ-discrete i n) (λ k. clear-mark b n i k (om
 
 clear-rec : (b : List ℕ) (n i : ℕ) → i < n → 3 * n ≤ length b → recAt (clearBounds b n) i ≡ newRec (recAt b i .r) (recAt b i .rv)
 unfolding recAt
-clear-rec b n i l r = rw (clear-else b n (3 * i) (λ j k. omega arith), clear-else b n (3 * i + 1) (λ j k. omega arith), clear-mark b n i l r)
+clear-rec b n i l r = rw (clear-else b n (3 * i) (λ j k. omega arith), clear-variable b n i, clear-mark b n i l r)
 
 clear-from : (b : List ℕ) (n i k : ℕ) → i + k ≡ n → 3 * n ≤ length b → recsOf (clearBounds b n) i k ≡ clearRecs (recsOf b i k)
 clear-from b n i zero e r = refl

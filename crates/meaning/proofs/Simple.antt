@@ -184,7 +184,7 @@ clear-node : (t : List ℕ) (n m : ℕ) → nodeAt (clearNodes t n) m ≡ nodeAt
 clear-node t zero m = refl
 clear-node t (suc n) m = node-set (clearNodes t n) (8 * n + 6) 0 m (omega arith) (omega arith) (omega arith) (omega arith) ∙ clear-node t n m
 
-clear-var : (t : List ℕ) (n : ℕ) (β : Bit) (m : ℕ) → var (clearNodes t n) β m ≡ var t β m
+pub clear-var : (t : List ℕ) (n : ℕ) (β : Bit) (m : ℕ) → var (clearNodes t n) β m ≡ var t β m
 unfolding var
 clear-var t zero β m = refl
 clear-var t (suc n) sum m = getD-set-other (clearNodes t n) (8 * n + 6) (8 * m + 4) 0 0 (omega arith) ∙ clear-var t n sum m

@@ -106,32 +106,16 @@ module _ (F : ℕ) (top : F ≤ greatest + 1) where
   pendings-good (t ∷ ts) h l = rw (good-pending t (h .0) (l .0)) (pendings-good ts (h .1) (l .1))
 
 -- the records' variables
-recs-at : (P : Rec → Type 0) (t : List ℕ) (i n : ℕ) → AllR P (recsOf t i n) → (j : ℕ) → j < n → P (recAt t (i + j))
-recs-at P t i zero h j l = absurd (omega arith)
-recs-at P t i (suc n) h zero l = rw add-zero (h .0)
-recs-at P t i (suc n) h (suc j) l = rw (add-suc i j, ← suc-add i j) (recs-at P t (suc i) n (h .1) j (omega arith))
-
 bounds-good : (t : List ℕ) (n : ℕ) → ((i : ℕ) → i < n → getD t (3 * i + 1) 0 ≤ greatest) → anyBadBound t n ≡ false
 bounds-good t zero h = refl
 bounds-good t (suc n) h = rw (bounds-good t n (λ i l. h i (omega arith)), le-ltb greatest (getD t (3 * n + 1) 0) (h n (omega arith)))
 
-module _ (F : ℕ) (inF : inRange F ≡ true) (m : Machine) (done : List Pending) (cls : Clauses) (W : Whole F m done cls) (low : m .next ≤ greatest + 1) where
+module _ (F : ℕ) (inF : inRange F ≡ true) (m : Machine) (done : List Pending) (cls : Clauses) (W : Whole F m done cls) where
   top : F ≤ greatest + 1
   top = omega (arith, range F inF)
 
   B : Base (m .party .nodes) F (stOf m done cls .em)
   B = W .inv .base
-
-  var-most : (β : Bit) (n : ℕ) → n < m .party .nodes → var (m .nodes) β n ≤ greatest
-  unfolding variable
-  var-most β n l = go (ℕ-discrete (var (m .nodes) β n) 0)
-    where
-      go : Dec (var (m .nodes) β n ≡ 0) → var (m .nodes) β n ≤ greatest
-      go (yes e) = omega arith
-      go (no e) =
-          let h = B .low (bitW β n) (known-bit (m .party .nodes) F (m .nodes) β n l e) in
-          let k : var (m .nodes) β n < m .next = rw (lit-bitW (m .nodes) β n) at h in
-          omega arith
 
   third-good : (n : ℕ) → Kid F n (nodeAt (m .nodes) n .c) → ForFull (nodeAt (m .nodes) n .kind) (Lf (nodeAt (m .nodes) n .c)) → Raw (m .nodes) n
       → (not (eqb (getD (m .nodes) (8 * n) 0) 1 || eqb (getD (m .nodes) (8 * n) 0) 2) ≡ false) × (badThird (getD (m .nodes) (8 * n) 0) n (getD (m .nodes) (8 * n + 3) 0) ≡ false)
@@ -148,20 +132,13 @@ module _ (F : ℕ) (inF : inRange F ≡ true) (m : Machine) (done : List Pending
         good-child F top n (getD (m .nodes) (8 * n + 1) 0) (B .kids-a n l) (B .lf-a n l),
         good-child F top n (getD (m .nodes) (8 * n + 2) 0) (B .kids-b n l) (B .lf-b n l),
         t .1,
-        le-ltb greatest (var (m .nodes) sum n) (var-most sum n l),
-        le-ltb greatest (var (m .nodes) carry n) (var-most carry n l),
+        le-ltb greatest (var (m .nodes) sum n) (W .tidy .vars sum n l),
+        le-ltb greatest (var (m .nodes) carry n) (W .tidy .vars carry n l),
       )
 
   nodes-good : (k : ℕ) → k ≤ m .party .nodes → anyBadNode (m .nodes) k ≡ false
   nodes-good zero h = refl
   nodes-good (suc k) h = rw (nodes-good k (omega arith), node-good k (omega arith))
-
-  record-most : (i : ℕ) → i < m .party .bounds → getD (m .bounds) (3 * i + 1) 0 ≤ greatest
-  record-most i l =
-      let R = recs-at (RecOK F (stOf m done cls)) (m .bounds) 0 (m .party .bounds) (W .inv .recs) i l in
-      let e : 0 + i ≡ i = omega arith in
-      let h : recAt (m .bounds) i .rv < m .next = rw e at (R .low) in
-      omega (arith, rv-at (m .bounds) i)
 
   words-good : anyBadOutput (m .party .nodes) (m .party .outputs .words) ≡ false
   words-good =
@@ -185,10 +162,10 @@ module _ (F : ℕ) (inF : inRange F ≡ true) (m : Machine) (done : List Pending
         words-good,
         le-ltb mostNodes (m .party .nodes) (W .tidy .nodes),
         le-ltb mostBounds (m .party .bounds) (W .tidy .bounds),
-        le-ltb greatest (m .party .drawn) (omega (arith, range F inF, W .tidy .drawn, W .tidy .left)),
+        le-ltb greatest (m .party .drawn) (omega (arith, range F inF, W .tidy .drawn, W .tidy .low)),
       )
 
-  tables-good : tablesDamaged m ≡ false
+  pub tables-good : tablesDamaged m ≡ false
   unfolding tablesDamaged nodesDamaged boundsDamaged
   tables-good =
       rw (
@@ -196,12 +173,12 @@ module _ (F : ℕ) (inF : inRange F ≡ true) (m : Machine) (done : List Pending
         le-ltb (length (m .nodes)) (8 * m .party .nodes) (B .room),
         nodes-good (m .party .nodes) (omega arith),
         le-ltb (length (m .bounds)) (3 * m .party .bounds) (W .records),
-        bounds-good (m .bounds) (m .party .bounds) record-most,
+        bounds-good (m .bounds) (m .party .bounds) (W .tidy .recs),
       )
 
-  pub all-good : allDamaged m ≡ false
+  pub all-good : m .next ≤ greatest + 1 → allDamaged m ≡ false
   unfolding allDamaged bufferDamaged sourceDamaged
-  all-good =
+  all-good low =
       rw (
         tables-good,
         le-ltb (length (m .clauses)) (m .shared .fill) (W .within),

@@ -9,12 +9,14 @@ use native.Mathlib.Omega.{arith}
 use borrow.Author.Tests.{eqb-false, ltb-false}
 use lib.Dec.{eqb, ltb, leb}
 use lib.IntN.{ℤ}
-use lib.ListN.{length, take, length-replicate}
+use lib.ListN.{length, getD, take, length-replicate}
 use lib.Seq.{sets, length-sets}
-use Rattle.model.specs.Limits.{inRange, mostTerms, mostTotal, mostOutputs, mostNodes, mostBounds}
+use Rattle.model.specs.Limits.{greatest, inRange, mostTerms, mostTotal, mostOutputs, mostNodes, mostBounds}
 use Rattle.model.specs.Logic.{variable, Term, total, weightedSum}
 use Rattle.model.specs.Words.{flat}
 use Rattle.model.specs.Replies.{Reply, number, Accepted, BadTerm, SumTooLarge, PendingFull, Damaged}
+use Rattle.model.specs.Signs.{Bit}
+use Rattle.model.specs.Nodes.{var}
 use Rattle.model.specs.Buckets.{Pending, present, outputsOf}
 use Rattle.model.specs.Machine.{Party, Machine, pendingOf, pending, weighed, totalOf, emptyParty, addTo, asPending, addAll, weightsOf, wordsOf}
 use Rattle.model.specs.Bounds.{Clauses}
@@ -28,8 +30,8 @@ use Rattle.meaning.specs.States.{St, stOf, addSt, raiseSt, overSt}
 use Rattle.meaning.proofs.Invariant.{leaf, Inv}
 use Rattle.meaning.proofs.Answers.{sumAll}
 use Rattle.meaning.proofs.Advance.{raiseSt-inv}
-use Rattle.meaning.proofs.Simple.{start-inv, addAll-leaves, addSt-inv, addAll-sum, overSt-inv}
-use Rattle.meaning.proofs.Records.{clear-bounds-length, clear-recs}
+use Rattle.meaning.proofs.Simple.{start-inv, addAll-leaves, addSt-inv, addAll-sum, clear-var, overSt-inv}
+use Rattle.meaning.proofs.Records.{clear-bounds-length, clear-recs, clear-variable}
 use Rattle.meaning.proofs.Adding.{weighed-is, addAll-weights, sum-is, neither, good-leaves, pending-put}
 
 abbrev pub Heavy : List Pending → Type 0
@@ -46,6 +48,9 @@ pub record Tidy (F : ℕ) (m : Machine) : Type 0 where
   pub nodes : m .party .nodes ≤ mostNodes
   pub bounds : m .party .bounds ≤ mostBounds
   pub clauses : m .party .clauses ≤ m .shared .fill
+  pub low : m .shared .left ≤ greatest + 1
+  pub vars : (β : Bit) (n : ℕ) → n < m .party .nodes → var (m .nodes) β n ≤ greatest
+  pub recs : (i : ℕ) → i < m .party .bounds → getD (m .bounds) (3 * i + 1) 0 ≤ greatest
 
 pub record Whole (F : ℕ) (m : Machine) (done : List Pending) (cls : Clauses) : Type 1 where
   pub inv : Inv F (stOf m done cls)
@@ -115,7 +120,19 @@ module _ (F : ℕ) where
     within = omega arith;
     words = refl;
     range = refl;
-    tidy = record { left = h; drawn = omega arith; heavy = tt; shape = refl; wide = omega arith; nodes = omega arith; bounds = omega arith; clauses = omega arith };
+    tidy = record {
+      left = h;
+      drawn = omega arith;
+      heavy = tt;
+      shape = refl;
+      wide = omega arith;
+      nodes = omega arith;
+      bounds = omega arith;
+      clauses = omega arith;
+      low = omega (arith, range F e);
+      vars = λ β n l. absurd (omega arith);
+      recs = λ i l. absurd (omega arith);
+    };
   })
 
   module _ (m : Machine) (done : List Pending) (cls : Clauses) (W : Whole F m done cls) where
@@ -149,6 +166,9 @@ module _ (F : ℕ) where
           nodes = W .tidy .nodes;
           bounds = W .tidy .bounds;
           clauses = W .tidy .clauses;
+          low = W .tidy .low;
+          vars = W .tidy .vars;
+          recs = W .tidy .recs;
         };
       };
       sum = λ α. omega arith;
@@ -206,6 +226,9 @@ module _ (F : ℕ) where
             nodes = W .tidy .nodes;
             bounds = W .tidy .bounds;
             clauses = W .tidy .clauses;
+            low = W .tidy .low;
+            vars = W .tidy .vars;
+            recs = W .tidy .recs;
           };
         };
         sum = put-sum;
@@ -260,6 +283,9 @@ module _ (F : ℕ) where
               nodes = W .tidy .nodes;
               bounds = W .tidy .bounds;
               clauses = omega arith;
+              low = W .tidy .low;
+              vars = λ β n l. rw (clear-var (m .nodes) (m .party .nodes) β n) (W .tidy .vars β n l);
+              recs = λ i l. rw (clear-variable (m .bounds) (m .party .bounds) i) (W .tidy .recs i l);
             };
           };
           sum = λ α. omega arith;

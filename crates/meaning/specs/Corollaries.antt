@@ -1,6 +1,6 @@
 -- What follows of DEMAND 3 and of the invariant behind it. Assumes nothing: these are definitions.
 use mathlib.Core.Path.{_≡_}
-use mathlib.Core.Bool.{Bool, true}
+use mathlib.Core.Bool.{Bool, true, false}
 use mathlib.Core.Logic.{_↔_}
 use mathlib.Core.List.{List}
 use Prim.Native.Nat.{ℕ, _+_, _≤_}
@@ -9,7 +9,7 @@ use lib.IntN.{ℤ}
 use Rattle.model.specs.Limits.{greatest, inRange}
 use Rattle.model.specs.Logic.{weightedSum}
 use Rattle.model.specs.Machine.{Machine}
-use Rattle.model.specs.Damage.{allDamaged}
+use Rattle.model.specs.Damage.{tablesDamaged, allDamaged}
 use Rattle.model.specs.Calls.{enforceUpper, enforceLower}
 use Rattle.meaning.specs.Histories.{Call, afterAll, allTaken, fresh, Answered, Extends}
 
@@ -30,8 +30,10 @@ SameChoices =
     weightedSum α (allTaken calls m₀) ≡ weightedSum α (allTaken calls′ m₀′) → Answered upper → Answered lower → Answered upper′ → Answered lower′
     → Extends F α m upper lower ↔ Extends F α m′ upper′ lower′
 
--- whatever is called, the machine is damaged exactly where the caller has moved the source past 536,870,912
+-- whatever is called, no state and no table is found damaged, so that adding, enforcing, reporting and starting over never answer so; and
+-- encoding and reserving do exactly where the caller has moved the source past 536,870,912
 unfoldable pub Undamaged : Type 0
 Undamaged =
     (F next : ℕ) (nodes bounds : List ℕ) (clauses : List ℤ) → inRange F ≡ true → F ≤ next
-    → (calls : List Call) → let m = afterAll calls (fresh F next nodes bounds clauses) in allDamaged m ≡ ltb (greatest + 1) (m .next)
+    → (calls : List Call) → let m = afterAll calls (fresh F next nodes bounds clauses) in
+    (tablesDamaged m ≡ false) × (allDamaged m ≡ ltb (greatest + 1) (m .next))
