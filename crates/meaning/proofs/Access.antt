@@ -1,18 +1,18 @@
 -- The laws of the table's words: what a store to a variable or a mark changes, and what it leaves.
-use mathlib.Core.Path.{_≡_, refl, sym, ap, _∙_, subst}
+use mathlib.Core.Path.{_≡_, refl, ap, _∙_}
 use mathlib.Core.Logic.{_≢_, _⊎_, inl, inr}
-use mathlib.Core.Bool.{Bool, true, false, not}
-use mathlib.Core.List.{List, [], _∷_, _++_}
-use Prim.Native.Nat.{ℕ, zero, suc, _+_, _*_, _/_, _%_, _≤_, _<_, _^_}
+use mathlib.Core.Bool.{false}
+use mathlib.Core.List.{List}
+use Prim.Native.Nat.{ℕ, zero, suc, _+_, _*_, _/_, _%_, _<_, _^_}
 use native.Mathlib.Omega.{arith}
 use native.Mathlib.Decide.{ℕ-discrete}
-use lib.Dec.{T, eqb, eqb→eq}
+use lib.Dec.{T, eqb}
 use lib.ListN.{length, getD, set, length-set}
-use lib.Seq.{getD-set-same, getD-set-other, set-out}
-use borrow.Author.Tests.{eq-eqb, ne-eqb, eqb-false, eqb-true}
-use Rattle.model.specs.Signs.{Kind, Bit, sum, carry, Dir, iff, onlyif}
-use Rattle.model.specs.Nodes.{Node, kindOf, nodeAt, bitPlace, markPlace, bitAt, var, marked, setVar, setMark}
-use Rattle.meaning.proofs.Tests.{T-of, T-true}
+use lib.Seq.{getD-set-same, getD-set-other}
+use borrow.Author.Tests.{eq-eqb, eqb-false}
+use Rattle.model.specs.Signs.{Bit, sum, carry, Dir, iff, onlyif}
+use Rattle.model.specs.Nodes.{nodeAt, bitPlace, markPlace, bitAt, var, marked, setVar, setMark}
+use Rattle.meaning.proofs.Tests.{T-of}
 
 -- a store past the four static words leaves a node as it is
 pub node-set : (t : List ℕ) (i x n : ℕ) → (8 * n ≢ i) → (8 * n + 1 ≢ i) → (8 * n + 2 ≢ i) → (8 * n + 3 ≢ i) → nodeAt (set t i x) n ≡ nodeAt t n

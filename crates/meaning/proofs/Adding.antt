@@ -1,14 +1,13 @@
 -- Terms as pending words: an accepted list gives leaves, adds its weighted sum, and stands in the party's places. Assumes nothing.
 use mathlib.Core.Path.{_≡_, refl, sym, ap, ap₂, _∙_}
-use mathlib.Core.Bool.{Bool, true, false, not, cond, _||_}
+use mathlib.Core.Bool.{Bool, true, false, cond, _||_}
 use mathlib.Core.List.{List, [], _∷_, map}
 use Prim.Native.Nat.{ℕ, zero, suc, _+_, _*_, _/_, _%_, _≤_, _<_}
 use native.Mathlib.Omega.{arith}
 use borrow.Author.Tests.{eqb-false, leb-false}
 use lib.Dec.{eqb, leb}
-use lib.ListN.{length, take, drop}
-use lib.Seq.{sets, length-sets}
-use Rattle.model.specs.Limits.{mostTerms}
+use lib.ListN.{length, take}
+use lib.Seq.{sets}
 use Rattle.model.specs.Logic.{Lit, pL, nL, variable, litTrue, Term, total, weightedSum}
 use Rattle.model.specs.Words.{connection}
 use Rattle.model.specs.Buckets.{Pending}
@@ -16,7 +15,7 @@ use Rattle.model.specs.Machine.{Party, pendingOf, pending, weighed, addTo, asPe
 use Rattle.model.specs.Calls.{badTerm, firstBadTerm, withPending}
 use Rattle.model.proofs.Buffer.{sets-stand}
 use Rattle.meaning.specs.Worth.{b2n, weigh, weights}
-use Rattle.meaning.proofs.Invariant.{Leaf, Leaves, leafBy, leaf}
+use Rattle.meaning.proofs.Invariant.{Leaf, Leaves, leaf}
 
 pub weighed-is : (ps : List Pending) → weighed ps ≡ weights ps
 unfolding weighed

@@ -1,28 +1,26 @@
 -- Emitting and reserving keep the invariant: whatever the emitter's steps do.
-use mathlib.Core.Path.{_≡_, refl, sym, ap, _∙_, subst, fun-ext}
-use mathlib.Core.Logic.{_≢_, _⊎_, inl, inr}
-use mathlib.Core.Bool.{Bool, true, false, not}
-use mathlib.Core.List.{List, [], _∷_, _++_}
-use mathlib.Core.Option.{Option, none, some}
-use Prim.Native.Nat.{ℕ, zero, suc, _+_, _*_, _/_, _%_, _≤_, _<_, _^_}
+use mathlib.Core.Path.{_≡_, refl, ap, _∙_, fun-ext}
+use mathlib.Core.Logic.{_⊎_, inl, inr}
+use mathlib.Core.Bool.{Bool}
+use mathlib.Core.List.{List, [], _∷_}
+use mathlib.Core.Option.{none}
+use Prim.Native.Nat.{ℕ, zero, suc, _+_, _≤_, _<_}
 use native.Mathlib.Omega.{arith}
 use lib.Dec.{T, ltb}
-use lib.ListN.{length}
-use Rattle.model.specs.Logic.{Lit, pL, nL, variable, litTrue, clausesTrue}
-use Rattle.model.specs.Signs.{Bit, sum, carry, Dir, iff, onlyif}
-use Rattle.model.specs.Nodes.{sumWord, carryWord, Node, nodeAt, var, marked, litBy, litAt}
-use Rattle.model.specs.Buckets.{box, boxes}
+use native.Mathlib.Nat.{lt-of-lt-of-le}
+use Rattle.model.specs.Signs.{Bit, Dir}
+use Rattle.model.specs.Nodes.{nodeAt, marked}
+use Rattle.model.specs.Buckets.{boxes}
 use Rattle.model.specs.Emit.{Em, emit, emitAll}
-use Rattle.model.specs.Compare.{outLit, outLits}
+use Rattle.model.specs.Compare.{outLits}
 use Rattle.model.specs.Bounds.{plus1, follow, Clauses}
-use Rattle.meaning.specs.Worth.{weigh, value}
-use Rattle.meaning.specs.States.{Rec, St, start, comp, mk, emitSt, raiseSt}
-use Rattle.meaning.proofs.Sums.{Ord, nodeIn, nodeOut, Ord-refl}
-use Rattle.meaning.proofs.Forms.{All, Alls, Alls-map}
-use Rattle.meaning.proofs.Emitting.{OutW, Lf, Entails, Mk, MkBy, OK, Base, Kid, Known, KnownBy, Good, Canon, Grow, Grow-trans, Post, Res, Res-refl, Res-trans, New, OK-kept, known-out, lit-kept, mk-kept, emit-ok}
+use Rattle.meaning.specs.Worth.{value}
+use Rattle.meaning.specs.States.{Rec, St, emitSt, raiseSt}
+use Rattle.meaning.proofs.Forms.{Alls, Alls-map}
+use Rattle.meaning.proofs.Emitting.{OutW, Mk, OK, Base, Canon, Grow, Res, Res-refl, Res-trans, OK-kept, known-out, lit-kept, mk-kept, emit-ok}
 use Rattle.meaning.proofs.Ranges.{NZs-mono}
-use Rattle.meaning.proofs.Canonical.{canonV, canon-same, canon-is}
-use Rattle.meaning.proofs.Invariant.{Leaf, Leaves, leafBy, leaf, AllR, RecOK, canon, Fits, Inv}
+use Rattle.meaning.proofs.Canonical.{canon-same, canon-is}
+use Rattle.meaning.proofs.Invariant.{leaf, AllR, RecOK, canon, Fits, Inv}
 
 pub AllR-map : (P Q : Rec → Type 0) → ((x : Rec) → P x → Q x) → (xs : List Rec) → AllR P xs → AllR Q xs
 AllR-map P Q f [] h = tt
@@ -70,15 +68,12 @@ module _ (F : ℕ) where
 
       rec : (x : Rec) → RecOK F st x → RecOK F (withEm st e′) x
       rec x R = record {
-        low = lt-le (x .rv) (st .em .next) (e′ .next) (R .low) (g .upto);
+        low = lt-of-lt-of-le (R .low) (g .upto);
         nz = R .nz;
         small = R .small;
         outs = λ δ m. Alls-map (Mk (st .em .table) δ) (Mk (e′ .table) δ) (λ w k. mk-kept (st .N) F (st .em) e′ δ w g k) (boxes (st .outs)) (R .outs δ m);
         clauses = λ δ m. rw (outs-kept st e′ δ (I .base) g (st .outs) (I .kids) (R .outs δ m)) (λ α h. R .clauses δ m α (g .adds α h));
       }
-        where
-          lt-le : (a b c : ℕ) → a < b → b ≤ c → a < c
-          lt-le a b c h k = omega arith
 
       same-v : (α : ℕ → Bool) → canon F (withEm st e′) α ≡ canon F st α
       same-v α = fun-ext (λ w. canon-same (st .N) F (st .em .table) (e′ .table) (leaf α) (st .N) (λ m k. node m) w)
@@ -92,14 +87,11 @@ module _ (F : ℕ) where
             q .0,
             record {
               good = rw (same-v α) (q .1);
-              same = λ y h. q .2 y (lt-le y F (st .em .next) h (I .base .fresh)) ∙ o .1 .same y h;
+              same = λ y h. q .2 y (lt-of-lt-of-le h (I .base .fresh)) ∙ o .1 .same y h;
               recs = rw (same-v α) (AllR-map₂ (RecOK F st) (λ x. o .0 (x .rv) ≡ ltb (x .r) (value v (boxes (st .outs)))) (λ x. q .0 (x .rv) ≡ ltb (x .r) (value v (boxes (st .outs))))
                   (λ x R e. q .2 (x .rv) (R .low) ∙ e) (st .recs) (I .recs) (o .1 .recs));
             },
           )
-        where
-          lt-le : (a b c : ℕ) → a < b → b ≤ c → a < c
-          lt-le a b c h k = omega arith
 
   -- all outputs by rising bucket
   emitAll-ok : (N : ℕ) (δ : Dir) (ws : List ℕ) (e : Em Clauses) → Alls (OutW F N) (boxes ws) → Base N F e → Res N F e (emitAll plus1 follow δ N ws e) × Alls (Mk ((emitAll plus1 follow δ N ws e) .table) δ) (boxes ws)

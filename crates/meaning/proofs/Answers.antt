@@ -1,27 +1,26 @@
 -- Demand 3, of any state that the invariant holds of: a choice for the inputs extends to the fresh variables, with every clause and both answers'
 -- literals true, exactly when the weighted sum lies between the bounds.
 use mathlib.Core.Path.{_≡_, refl, sym, ap, _∙_, subst}
-use mathlib.Core.Logic.{_≢_, _⊎_, inl, inr, _↔_}
-use mathlib.Core.Bool.{Bool, true, false, not, cond, _&&_}
-use mathlib.Core.List.{List, [], _∷_, _++_}
+use mathlib.Core.Logic.{_≢_, _↔_}
+use mathlib.Core.Bool.{Bool, true, false, not, cond}
+use mathlib.Core.List.{List, [], _∷_}
 use mathlib.Core.Option.{Option, none, some}
 use Prim.Native.Nat.{ℕ, zero, suc, _+_, _*_, _/_, _%_, _≤_, _<_, _^_}
 use native.Mathlib.Omega.{arith}
-use lib.Dec.{T, ltb, leb, eqb, leb→le, ltb→lt, lt→ltb, le→leb}
+use lib.Dec.{T, ltb, leb, eqb, T-not}
 use lib.ListN.{length}
-use borrow.Author.Tests.{eqb-true, leb-true, leb-false, ltb-true, ltb-false, lt-ltb, le-ltb}
-use Rattle.model.specs.Logic.{Lit, pL, nL, neg, variable, litTrue, clausesTrue}
+use borrow.Author.Tests.{eqb-true, leb-true, lt-ltb, le-ltb}
+use Rattle.model.specs.Logic.{pL, nL, litTrue, clausesTrue}
 use Rattle.model.specs.Signs.{Dir, iff, onlyif}
-use Rattle.model.specs.Nodes.{nodeAt, litBy, litAt}
+use Rattle.model.specs.Nodes.{litBy, litAt}
 use Rattle.model.specs.Buckets.{Pending, box, boxes}
-use Rattle.model.specs.Emit.{Em}
-use Rattle.model.specs.Compare.{Outs, outLit, outLits, comparator}
+use Rattle.model.specs.Compare.{outLit, outLits, comparator}
 use Rattle.meaning.specs.Worth.{b2n, weigh, weights, value, cnt, valO, outVal}
-use Rattle.meaning.specs.States.{Rec, St, comp, mk, lookup, Answer, unneeded, lit, unanswered, upLit, loLit, ifNone, totalSt, upper, lower}
-use Rattle.meaning.proofs.Tests.{T-of, T-true}
+use Rattle.meaning.specs.States.{Rec, St, mk, lookup, Answer, unneeded, lit, unanswered, upLit, loLit, ifNone, totalSt, upper, lower}
+use Rattle.meaning.proofs.Tests.{T-of}
 use Rattle.meaning.proofs.Sums.{Ord}
-use Rattle.meaning.proofs.Emitting.{Base, Canon}
-use Rattle.meaning.proofs.Canonical.{canonV, canon-leaf, canon-is, canon-each}
+use Rattle.meaning.proofs.Emitting.{Canon}
+use Rattle.meaning.proofs.Canonical.{canon-leaf, canon-is, canon-each}
 use Rattle.meaning.proofs.Comparing.{compare-if, compare-only}
 use Rattle.meaning.proofs.Invariant.{Leaf, Leaves, leafBy, leaf, AllR, RecOK, canon, Fits, Inv, each-node}
 
@@ -111,10 +110,6 @@ module _ (F : ℕ) where
       let e : weigh v (st .done) ≡ weigh (leaf α) (st .done) = weigh-ap F v (leaf α) (st .done) (I .leaves) (λ w k. canon-leaf t (st .N) (leaf α) w (k .0)) in
       omega arith
 
-  not-T : (b : Bool) → T (not b) → T b → ⊥
-  not-T true t s = t
-  not-T false t s = s
-
   nlt : (a b : ℕ) → (a < b → ⊥) → b ≤ a
   nlt a b f = omega arith
 
@@ -138,7 +133,7 @@ module _ (F : ℕ) where
               let os = outLits (st .em .table) (st .outs) in
               let b : weigh (leaf α) (st .done) ≤ outVal α′ os = bounded st iff α α′ x I c s R m in
               let lt : x .r < 2 ^ length os = rw (outs-len (st .em .table) (st .outs)) (R .small) in
-              let g : outVal α′ os ≤ x .r = nlt (x .r) (outVal α′ os) (λ h. not-T (α′ (x .rv)) k′ ((compare-if α′ os (x .r) (pL (x .rv)) lt) .0 (R .clauses iff m α′ c) h)) in
+              let g : outVal α′ os ≤ x .r = nlt (x .r) (outVal α′ os) (λ h. T-not (α′ (x .rv)) k′ ((compare-if α′ os (x .r) (pL (x .rv)) lt) .0 (R .clauses iff m α′ c) h)) in
               let q : x .r ≡ U = f .1 in
               omega arith
 

@@ -1,31 +1,31 @@
 -- A bound's record and its comparator keep the invariant, once the outputs are emitted in its direction.
-use mathlib.Core.Path.{_≡_, refl, sym, ap, _∙_, subst}
-use mathlib.Core.Logic.{_≢_, _⊎_, inl, inr}
-use mathlib.Core.Bool.{Bool, true, false, not, cond}
+use mathlib.Core.Path.{_≡_, refl, sym, _∙_, subst}
+use mathlib.Core.Logic.{_≢_}
+use mathlib.Core.Bool.{Bool, true, false, cond}
 use mathlib.Core.List.{List, [], _∷_, _++_}
 use mathlib.Core.Option.{Option, none, some}
-use Prim.Native.Nat.{ℕ, zero, suc, _+_, _*_, _/_, _%_, _≤_, _<_, _^_}
+use Prim.Native.Nat.{ℕ, zero, suc, _+_, _*_, _%_, _≤_, _<_, _^_}
 use native.Mathlib.Omega.{arith}
 use lib.Dec.{T, ltb, eqb, ltb→lt, lt→ltb}
 use lib.ListN.{length}
-use borrow.Author.Tests.{eqb-true}
-use Rattle.model.specs.Logic.{Lit, pL, nL, variable, litTrue, clausesTrue}
-use Rattle.model.specs.Signs.{Bit, sum, carry, Dir, iff, onlyif}
-use Rattle.model.specs.Nodes.{nodeAt, litAt}
+use native.Mathlib.Nat.{lt-of-lt-of-le}
+use Rattle.model.specs.Logic.{Lit, pL, variable, litTrue, clausesTrue}
+use Rattle.model.specs.Signs.{Dir, iff, onlyif}
+use Rattle.model.specs.Nodes.{litAt}
 use Rattle.model.specs.Buckets.{Pending, box, boxes}
 use Rattle.model.specs.Emit.{Em}
-use Rattle.model.specs.Compare.{Outs, outLit, outLits, comparator}
+use Rattle.model.specs.Compare.{Outs, outLits, comparator}
 use Rattle.model.specs.Bounds.{Clauses}
-use Rattle.meaning.specs.Worth.{b2n, weigh, weights, value, cnt, valO, outVal}
+use Rattle.meaning.specs.Worth.{b2n, weigh, weights, value, cnt, outVal}
 use Rattle.meaning.specs.States.{Rec, St, comp, mk, setMk, lookup, markRec, writeBound, boundBy, boundSt, bounds}
-use Rattle.meaning.proofs.Tests.{and-l, and-r, and-i, T-of, T-true}
-use Rattle.meaning.proofs.Sums.{Ord}
+use Rattle.meaning.proofs.Implications.{clauses-append}
+use Rattle.meaning.proofs.Tests.{and-l, and-r, and-i}
 use Rattle.meaning.proofs.Forms.{All, Alls}
-use Rattle.meaning.proofs.Comparing.{compare-if, compare-only, AgreeO, if-agree, only-agree, clauses-append}
-use Rattle.meaning.proofs.Emitting.{OutW, Lf, known-nz, Entails, Dep, Mk, Kid, Known, Base, Good, Grow, Canon, OK-kept, known-out, lit-agree, upd, upd-same, upd-other}
+use Rattle.meaning.proofs.Comparing.{compare-if, compare-only, AgreeO, if-agree, only-agree}
+use Rattle.meaning.proofs.Emitting.{OutW, known-nz, Entails, Dep, Mk, Known, Base, Grow, Canon, OK-kept, known-out, lit-agree, upd, upd-same, upd-other}
 use Rattle.meaning.proofs.Canonical.{canonV, canon-leaf, canon-is, canon-each}
-use Rattle.meaning.proofs.Invariant.{Leaf, Leaves, leaf, AllR, RecOK, canon, Fits, Inv}
-use Rattle.meaning.proofs.Ranges.{Lw, NZs, NZos, NZs-append, NZs-mono, comp-nz}
+use Rattle.meaning.proofs.Invariant.{Leaves, AllR, RecOK, canon, Fits, Inv}
+use Rattle.meaning.proofs.Ranges.{NZos, NZs-append, NZs-mono, comp-nz}
 use Rattle.meaning.proofs.Answers.{outs-val, outs-len, found}
 use Rattle.meaning.proofs.Advance.{AllR-map, AllR-map₂}
 
@@ -118,7 +118,7 @@ module _ (F : ℕ) where
       first = B .first;
       fresh = omega (arith, B .fresh);
       has = B .has;
-      low = λ w k. lt-le _ _ _ (B .low w k) up;
+      low = λ w k. lt-of-lt-of-le (B .low w k) up;
       dep = dep′;
       lf-a = B .lf-a;
       lf-b = B .lf-b;
@@ -154,17 +154,14 @@ module _ (F : ℕ) where
       known : Alls (Known (st .N) F t) (boxes (st .outs))
       known = outs-known st δ I (st .outs) (I .kids) o
 
-      lt-le : (a b c : ℕ) → a < b → b ≤ c → a < c
-      lt-le a b c h k = omega arith
-
       g : Grow (st .N) F (st .em) e′
       g = record { node = λ m. refl; vars = λ β m h k. refl; marks = λ β δ′ m k. k; adds = λ α h. and-l (clausesTrue α (st .em .sink)) (clausesTrue α new) (rw (clauses-append α (st .em .sink) new) at h); upto = up }
 
       dep′ : Dep next (st .em .sink ++ new)
       dep′ α α′ h =
-          let at : (w : ℕ) → Known (st .N) F t w → litTrue α (litAt t w) ≡ litTrue α′ (litAt t w) = λ w k. lit-agree α′ α next (litAt t w) h (lt-le _ _ _ (B .low w k) up) in
+          let at : (w : ℕ) → Known (st .N) F t w → litTrue α (litAt t w) ≡ litTrue α′ (litAt t w) = λ w k. lit-agree α′ α next (litAt t w) h (lt-of-lt-of-le (B .low w k) up) in
           let q : clausesTrue α new ≡ clausesTrue α′ new = comp-agree δ α α′ os r (pL rv) (agree-outs (st .N) t α α′ at (st .outs) known) (h rv lo) in
-          let p : clausesTrue α (st .em .sink) ≡ clausesTrue α′ (st .em .sink) = B .dep α α′ (λ y k. h y (lt-le y (st .em .next) next k up)) in
+          let p : clausesTrue α (st .em .sink) ≡ clausesTrue α′ (st .em .sink) = B .dep α α′ (λ y k. h y (lt-of-lt-of-le k up)) in
           clauses-append α (st .em .sink) new ∙ rw (p, q) (sym (clauses-append α′ (st .em .sink) new))
 
       fits′ : (α α′ : ℕ → Bool) → Fits F st α α′ → Choice st r rv recs α α′ → (β : ℕ → Bool) × Fits F (writeBound δ r rv next recs st) α β
@@ -179,7 +176,7 @@ module _ (F : ℕ) where
             β,
             record {
               good = record { val = val; holds = rw (clauses-append β (st .em .sink) new) (and-i (clausesTrue β (st .em .sink)) (clausesTrue β new) ho hn) };
-              same = λ y h. c .old y (lt-le y F (st .em .next) h (B .fresh)) ∙ G .same y h;
+              same = λ y h. c .old y (lt-of-lt-of-le h (B .fresh)) ∙ G .same y h;
               recs = c .vals;
             },
           )
@@ -187,15 +184,12 @@ module _ (F : ℕ) where
   -- a record that stood, after the write
   stood : (δ : Dir) (r rv next : ℕ) (recs : List Rec) (st : St) → st .em .next ≤ next → (x : Rec) → RecOK F st x → RecOK F (writeBound δ r rv next recs st) x
   stood δ r rv next recs st up x R = record {
-    low = lt-le (x .rv) (st .em .next) next (R .low) up;
+    low = lt-of-lt-of-le (R .low) up;
     nz = R .nz;
     small = R .small;
     outs = R .outs;
     clauses = λ δ′ m α h. R .clauses δ′ m α (and-l (clausesTrue α (st .em .sink)) (clausesTrue α (comp δ (outLits (st .em .table) (st .outs)) r (pL rv))) (rw (clauses-append α (st .em .sink) (comp δ (outLits (st .em .table) (st .outs)) r (pL rv))) at h));
   }
-    where
-      lt-le : (a b c : ℕ) → a < b → b ≤ c → a < c
-      lt-le a b c h k = omega arith
 
   -- the record that is marked
   marked-rec : (δ : Dir) (next : ℕ) (recs : List Rec) (st : St) (x : Rec) → st .em .next ≤ next → x .rv < next → x .rv ≢ 0 → x .r < 2 ^ length (st .outs) → Alls (Mk (st .em .table) δ) (boxes (st .outs))

@@ -1,30 +1,30 @@
 -- A build keeps the invariant.
 use mathlib.Core.Path.{_≡_, refl, sym, ap, _∙_, subst}
 use mathlib.Core.Logic.{_≢_, _⊎_, inl, inr}
-use mathlib.Core.Bool.{Bool, true, false, not}
+use mathlib.Core.Bool.{Bool}
 use mathlib.Core.List.{List, [], _∷_, _++_}
-use Prim.Native.Nat.{ℕ, zero, suc, _+_, _*_, _-_, _/_, _%_, _≤_, _<_, _^_}
+use Prim.Native.Nat.{ℕ, zero, suc, _+_, _*_, _-_, _/_, _%_, _≤_, _<_}
 use native.Mathlib.Nat.{add-zero, add-suc, suc-add}
 use native.Mathlib.Omega.{arith}
 use native.Mathlib.Decide.{decLt}
 use lib.Dec.{T}
 use lib.ListN.{length, getD}
-use Rattle.model.specs.Logic.{Lit, pL, litTrue, variable, clausesTrue}
-use Rattle.model.specs.Signs.{Kind, half, full, Bit, sum, carry, Dir, iff, onlyif, signs, rowsAt}
+use Rattle.model.specs.Logic.{pL}
+use Rattle.model.specs.Signs.{Kind, half, full, Bit, sum, carry, Dir, iff, onlyif}
 use Rattle.model.specs.Nodes.{halfNode, kindNo, sumWord, carryWord, Node, nodeAt, var, marked, litBy, litAt, putNodes}
-use Rattle.model.specs.Buckets.{width, buckets, buildAll, structure, Made, build, Pending, pickBit, lows, highs, spread, join, fronts, boxes}
+use Rattle.model.specs.Buckets.{width, buckets, buildAll, structure, Pending, pickBit, lows, highs, spread, join, fronts, boxes}
 use Rattle.model.specs.Emit.{Em, gateAt}
 use Rattle.model.specs.Bounds.{Clauses}
 use Rattle.meaning.specs.Worth.{weigh, value}
-use Rattle.meaning.specs.States.{Rec, St, built, buildSt}
-use Rattle.meaning.proofs.Sums.{Ord, nodeIn, nodeOut, Each, build-law, Fit, spread-law, join-law}
+use Rattle.meaning.specs.States.{St, built, buildSt}
+use Rattle.meaning.proofs.Sums.{weigh-append, ledger-step, Ord, nodeIn, nodeOut, Each, build-law, Fit, spread-law, join-law}
 use Rattle.meaning.proofs.Forms.{fuel, NoThird, NoThirds, build-thirds, All, Alls, All-append, All-right, Downs, Bits, build-cover, Below, Stands, build-below, build-ones, boxes-fronts, build-keep, Kids, build-kids, Alls-map}
 use Rattle.meaning.proofs.Ranges.{ForFull}
 use Rattle.meaning.proofs.Access.{Raw}
 use Rattle.meaning.proofs.Tables.{Put, puts}
-use Rattle.meaning.proofs.Emitting.{OutW, Lf, LfBy, Mk, MkBy, OK, KidBy, Kid, KnownBy, Known, Base, Good, known-mk}
+use Rattle.meaning.proofs.Emitting.{bit-code, OutW, Lf, LfBy, Mk, MkBy, OK, KidBy, Kid, KnownBy, Known, Base, known-mk}
 use Rattle.meaning.proofs.Canonical.{canonV, canon-below, canon-same, kid-up, kid-bit}
-use Rattle.meaning.proofs.Invariant.{Leaf, Leaves, leaf, AllR, RecOK, canon, Fits, Inv}
+use Rattle.meaning.proofs.Invariant.{Leaf, Leaves, leaf, Inv}
 
 -- pointwise facts of new nodes, as facts of the list
 each-list : (δ : Dir) (v : ℕ → Bool) (t : List ℕ) (n : ℕ) (nds : List Node) → ((i : ℕ) → i < length nds → nodeAt t (n + i) ≡ getD nds i (halfNode 0 0))
@@ -64,9 +64,6 @@ module _ (F : ℕ) where
       go zero l = h .1
       go (suc zero) l = h .1
       go (suc (suc c)) l = absurd (omega arith)
-
-  abbrev In : ℕ → ℕ → Type 0
-  In n w = Kid F n w × (w ≢ 0)
 
   lows-in : (P : ℕ → Type 0) → ((w : ℕ) → Leaf F w → P w) → (ts : List Pending) → Leaves F ts → All P (lows ts)
   lows-in P f [] h = tt
@@ -111,17 +108,11 @@ module _ (F : ℕ) where
 
   sound-sum : (n : ℕ) → Sound (sumWord n)
   unfolding sumWord
-  sound-sum n = (omega arith, rw m4 tt)
-    where
-      m4 : (4 * n + 2) % 4 ≡ 2
-      m4 = omega arith
+  sound-sum n = (omega arith, rw (bit-code sum n .0) tt)
 
   sound-car : (n : ℕ) → Sound (carryWord n)
   unfolding carryWord
-  sound-car n = (omega arith, rw m4 tt)
-    where
-      m4 : (4 * n + 3) % 4 ≡ 3
-      m4 = omega arith
+  sound-car n = (omega arith, rw (bit-code carry n .0) tt)
 
   kids-at : (nds : List Node) → Kids Sound sound-sum sound-car nds → (i : ℕ) → i < length nds → let nd = getD nds i (halfNode 0 0) in Sound (nd .a) × Sound (nd .b) × ForFull (nd .kind) (Sound (nd .c))
   kids-at [] h i l = absurd (omega arith)
@@ -179,14 +170,6 @@ module _ (F : ℕ) where
   Leaves-append : (ts us : List Pending) → Leaves F ts → Leaves F us → Leaves F (ts ++ us)
   Leaves-append [] us h k = k
   Leaves-append (t ∷ ts) us h k = (h .0, Leaves-append ts us (h .1) k)
-
-  weigh-append : (v : ℕ → Bool) (ts us : List Pending) → weigh v (ts ++ us) ≡ weigh v ts + weigh v us
-  weigh-append v [] us = omega arith
-  weigh-append v (t ∷ ts) us = omega (arith, weigh-append v ts us)
-
-  ledger-step : (δ : Dir) (old new os in' outs all : ℕ) → all ≡ old + new → in' ≡ new + os → Ord δ old os → Ord δ in' outs → Ord δ all outs
-  ledger-step iff old new os in' outs all p q h k = omega arith
-  ledger-step onlyif old new os in' outs all p q h k = omega arith
 
   -- the words of the old nodes are as they were
   old-word : (t t′ : List ℕ) (N : ℕ) (made : List Node) → Put t N made t′ → (w : ℕ) → Known (N + length made) F t′ w → Known N F t w × (litAt t′ w ≡ litAt t w)

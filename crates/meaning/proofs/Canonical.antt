@@ -1,17 +1,16 @@
 -- The canonical values of the words: the leaves' values as given, and each node's bits by its gate, from node 0 up.
 use mathlib.Core.Path.{_≡_, refl, sym, ap, _∙_}
-use mathlib.Core.Logic.{_≢_}
-use mathlib.Core.Bool.{Bool, true, false, cond}
+use mathlib.Core.Bool.{Bool, cond}
 use mathlib.Core.List.{List}
 use Prim.Native.Nat.{ℕ, zero, suc, _+_, _*_, _-_, _/_, _%_, _≤_, _<_}
 use native.Mathlib.Nat.{add-zero, add-suc}
 use native.Mathlib.Omega.{arith}
 use lib.Dec.{eqb}
 use borrow.Author.Tests.{eq-eqb, ne-eqb}
-use Rattle.model.specs.Signs.{Kind, Bit, sum, carry, Dir, iff, onlyif}
+use Rattle.model.specs.Signs.{Bit, sum, carry, Dir, iff, onlyif}
 use Rattle.model.specs.Nodes.{sumWord, carryWord, Node, nodeAt}
-use Rattle.meaning.proofs.Rows.{third, gateB, in3, out2, gate-adds}
-use Rattle.meaning.proofs.Emitting.{bitW, KidBy, Kid, Canon}
+use Rattle.meaning.proofs.Rows.{third, gateB, out2, gate-adds}
+use Rattle.meaning.proofs.Emitting.{bitW, bit-code, KidBy, Kid, Canon}
 use Rattle.meaning.proofs.Sums.{Ord, nodeIn, nodeOut}
 
 unfoldable pub gateV : Bit → Node → (ℕ → Bool) → Bool
@@ -35,10 +34,6 @@ put-at carry n nd v = rw (ne-eqb (4 * n + 3) (4 * n + 2) ne, eq-eqb (4 * n + 3) 
 put-off : (n : ℕ) (nd : Node) (v : ℕ → Bool) (w : ℕ) → (w ≡ sumWord n → ⊥) → (w ≡ carryWord n → ⊥) → putV n nd v w ≡ v w
 unfolding putV
 put-off n nd v w p q = rw (ne-eqb w (sumWord n) p, ne-eqb w (carryWord n) q)
-
-pub gate-in : (nd : Node) (v : ℕ → Bool) → out2 (gateV sum nd v) (gateV carry nd v) ≡ nodeIn v nd
-unfolding gateV
-gate-in nd v = gate-adds (v (nd .a)) (v (nd .b)) (third (nd .kind) (v (nd .c)))
 
 open-v : (t : List ℕ) (n : ℕ) (v : ℕ → Bool) (w : ℕ) → canonV t (suc n) v w ≡ putV n (nodeAt t n) (canonV t n v) w
 unfolding canonV
@@ -87,21 +82,8 @@ module _ (N F : ℕ) where
       go (suc (suc (suc c))) k′ = omega arith
 
   pub kid-bit : (β : Bit) (n : ℕ) → Kid F (suc n) (bitW β n)
-  unfolding sumWord carryWord
-  kid-bit sum n = rw (m4, d4) (omega arith)
-    where
-      m4 : (4 * n + 2) % 4 ≡ 2
-      m4 = omega arith
-
-      d4 : (4 * n + 2) / 4 ≡ n
-      d4 = omega arith
-  kid-bit carry n = rw (m4, d4) (omega arith)
-    where
-      m4 : (4 * n + 3) % 4 ≡ 3
-      m4 = omega arith
-
-      d4 : (4 * n + 3) / 4 ≡ n
-      d4 = omega arith
+  kid-bit sum n = let c = bit-code sum n in rw (c .0, c .1) (omega arith)
+  kid-bit carry n = let c = bit-code carry n in rw (c .0, c .1) (omega arith)
 
   -- a word below n is settled at n
   pub canon-below : (t : List ℕ) (v : ℕ → Bool) (n w : ℕ) → Kid F n w → (j : ℕ) → canonV t (n + j) v w ≡ canonV t n v w

@@ -1,20 +1,20 @@
 -- The comparators: the 'if' clauses hold exactly when (value > r implies b), the 'only-if' clauses exactly when (b implies value > r).
-use mathlib.Core.Path.{_≡_, refl, sym, ap, _∙_}
+use mathlib.Core.Path.{_≡_, refl, sym, _∙_}
 use mathlib.Core.Logic.{_↔_}
-use mathlib.Core.Bool.{Bool, true, false, not, _&&_, _||_, cond}
+use mathlib.Core.Bool.{Bool, true, false, not, _&&_, _||_, cond, or-true, and-true, or-false}
 use mathlib.Core.List.{List, [], _∷_, _++_}
 use mathlib.Core.Option.{Option, none, some}
 use Prim.Native.Nat.{ℕ, zero, suc, _+_, _*_, _/_, _%_, _≤_, _<_, _^_}
 use native.Mathlib.Omega.{arith}
 use lib.ListN.{length}
-use lib.Dec.{T, eqb, eqb→eq}
+use lib.Dec.{T, eqb, eqb→eq, T-not, not-T}
 use borrow.Author.Tests.{eqb-false}
 use Rattle.model.specs.Logic.{Lit, neg, litTrue, oneTrue, clausesTrue}
-use Rattle.model.specs.Signs.{Dir, iff, onlyif}
+use Rattle.model.specs.Signs.{iff, onlyif}
 use Rattle.model.specs.Compare.{Outs, ahead, above, higher, begins, clauseOf, compareRows, comparator}
 use Rattle.meaning.specs.Worth.{b2n, valO, outVal}
-use Rattle.meaning.proofs.Tests.{and-l, and-r, and-i, imp, imp-e, imp-i, T-true, T-of}
-use Rattle.meaning.proofs.Rows.{neg-not}
+use Rattle.meaning.proofs.Tests.{imp, imp-e, imp-i, T-of}
+use Rattle.meaning.proofs.Implications.{neg-true, one-append, clauses-append}
 
 -- the clauses of a bit, and of all bits, in each direction
 abbrev pub ownIf : ℕ → Option Lit → Option (List Lit) → Lit → List (List Lit)
@@ -95,40 +95,9 @@ cmp-spec α (o ∷ os) r h =
     let e : r % 2 + 2 * (r / 2) ≡ r = omega arith in
     rw e at s
 
--- small laws of Bool
-or-true : (a : Bool) → (a || true) ≡ true
-or-true true = refl
-or-true false = refl
-
-and-true : (a : Bool) → (a && true) ≡ a
-and-true true = refl
-and-true false = refl
-
 imp-true : (a : Bool) → imp a true ≡ true
 imp-true true = refl
 imp-true false = refl
-
-or-false : (a : Bool) → (a || false) ≡ a
-or-false true = refl
-or-false false = refl
-
-or-assoc : (a b c : Bool) → ((a || b) || c) ≡ (a || (b || c))
-or-assoc true b c = refl
-or-assoc false b c = refl
-
-pub clause-append : (α : ℕ → Bool) (c d : List Lit) → oneTrue α (c ++ d) ≡ (oneTrue α c || oneTrue α d)
-unfolding oneTrue
-clause-append α [] d = refl
-clause-append α (l ∷ c) d = rw (clause-append α c d, or-assoc (litTrue α l) (oneTrue α c) (oneTrue α d))
-
-and-assoc : (a b c : Bool) → ((a && b) && c) ≡ (a && (b && c))
-and-assoc true b c = refl
-and-assoc false b c = refl
-
-pub clauses-append : (α : ℕ → Bool) (c d : List (List Lit)) → clausesTrue α (c ++ d) ≡ (clausesTrue α c && clausesTrue α d)
-unfolding clausesTrue
-clauses-append α [] d = refl
-clauses-append α (l ∷ c) d = rw (clauses-append α c d, and-assoc (oneTrue α l) (clausesTrue α c) (clausesTrue α d))
 
 -- the outputs above: their literals are all false exactly when they equal r's bits; no clause where they cannot
 abbrev tailB : (ℕ → Bool) → Option (List Lit) → Bool
@@ -160,7 +129,7 @@ above-is : (α : ℕ → Bool) (m : ℕ) (o : Option Lit) (t : Option (List Lit)
 above-is α zero none t c e = e ∙ above-bool false c
 above-is α zero (some o) t c e = ahead-is α o t ∙ rw e (above-bool (litTrue α o) c)
 above-is α (suc m) none t c e = above-bool′ false m c
-above-is α (suc m) (some o) t c e = ahead-is α (neg o) t ∙ rw (e, neg-not α o) (above-bool′ (litTrue α o) m c)
+above-is α (suc m) (some o) t c e = ahead-is α (neg o) t ∙ rw (e, neg-true α o) (above-bool′ (litTrue α o) m c)
 
 tail-is : (α : ℕ → Bool) (os : Outs) (r : ℕ) → tailB α (higher os r) ≡ not (isEq (cmp α os r))
 unfolding oneTrue
@@ -183,7 +152,7 @@ ownIf-is : (α : ℕ → Bool) (m : ℕ) (o : Option Lit) (t : Option (List Lit)
 unfolding clausesTrue oneTrue
 ownIf-is α zero none t b = sym (or-true (tailB α t))
 ownIf-is α zero (some o) none b = refl
-ownIf-is α zero (some o) (some ls) b = rw (clause-append α ls (b ∷ []), neg-not α o) (if-bool (litTrue α o) (oneTrue α ls) (litTrue α b))
+ownIf-is α zero (some o) (some ls) b = rw (one-append α ls (b ∷ []), neg-true α o) (if-bool (litTrue α o) (oneTrue α ls) (litTrue α b))
 ownIf-is α (suc m) o t b = rw (gt-suc (valO α o) m, or-true (tailB α t))
 
 if-join : (c x : Ordr) (b : Bool) → ((not (isEq c) || imp (isGt x) b) && imp (isGt c) b) ≡ imp (isGt (thenO c x)) b
@@ -215,8 +184,8 @@ unfolding clausesTrue oneTrue
 ownOnly-is α zero o t b = rw (lt-zero (valO α o), imp-true (litTrue α b), or-true (tailB α t))
 ownOnly-is α (suc m) none none b = refl
 ownOnly-is α (suc m) (some o) none b = refl
-ownOnly-is α (suc m) none (some ls) b = rw (clause-append α ls (neg b ∷ []), neg-not α b) (only-bool false (oneTrue α ls) (litTrue α b) m)
-ownOnly-is α (suc m) (some o) (some ls) b = rw (clause-append α ls (neg b ∷ []), neg-not α b) (only-bool (litTrue α o) (oneTrue α ls) (litTrue α b) m)
+ownOnly-is α (suc m) none (some ls) b = rw (one-append α ls (neg b ∷ []), neg-true α b) (only-bool false (oneTrue α ls) (litTrue α b) m)
+ownOnly-is α (suc m) (some o) (some ls) b = rw (one-append α ls (neg b ∷ []), neg-true α b) (only-bool (litTrue α o) (oneTrue α ls) (litTrue α b) m)
 
 only-join : (c x : Ordr) (b : Bool) → ((not (isEq c) || imp b (not (isLt x))) && imp b (not (isLt c))) ≡ imp b (not (isLt (thenO c x)))
 only-join LT x b = refl
@@ -271,17 +240,9 @@ outVal-lt α (o ∷ os) = below (length os) (b2n (valO α o)) (outVal α os) (b2
     below : (k b v : ℕ) → b ≤ 1 → v < 2 ^ k → b + 2 * v < 2 ^ suc k
     below k b v h g = omega arith
 
-not-T′ : (b : Bool) → (T b → ⊥) → T (not b)
-not-T′ true f = absurd (f tt)
-not-T′ false f = tt
-
-T-not′ : (b : Bool) → T (not b) → T b → ⊥
-T-not′ true t s = t
-T-not′ false t s = s
-
 only-last : (α : ℕ → Bool) (b : Lit) → clausesTrue α ((neg b ∷ []) ∷ []) ≡ not (litTrue α b)
 unfolding clausesTrue litTrue oneTrue
-only-last α b = rw (and-true (litTrue α (neg b) || false), or-false (litTrue α (neg b))) (neg-not α b)
+only-last α b = rw (and-true (litTrue α (neg b) || false), or-false (litTrue α (neg b))) (neg-true α b)
 
 to-lt : (r v : ℕ) → r + 1 ≤ v → r < v
 to-lt r v h = omega arith
@@ -294,8 +255,8 @@ only-cases : (α : ℕ → Bool) (os : Outs) (r : ℕ) (b : Lit) → r < 2 ^ len
 only-cases α os r b h true e =
     let z : r + 1 ≡ 2 ^ length os = eqb→eq (r + 1) (2 ^ length os) (T-of _ e) in
     rw (only-last α b) (
-      λ t k. absurd (T-not′ (litTrue α b) t k),
-      λ f. not-T′ (litTrue α b) (λ k. never r (outVal α os) (2 ^ length os) z (outVal-lt α os) (f k)),
+      λ t k. absurd (T-not (litTrue α b) t k),
+      λ f. not-T (litTrue α b) (λ k. never r (outVal α os) (2 ^ length os) z (outVal-lt α os) (f k)),
     )
 only-cases α os r b h false e =
     let ne : r + 1 ≡ 2 ^ length os → ⊥ = eqb-false (r + 1) (2 ^ length os) e in

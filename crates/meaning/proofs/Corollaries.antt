@@ -1,9 +1,9 @@
 -- What follows: histories of the same terms admit the same choices, and only a source that is moved too far leaves a damaged machine.
 -- Assumes nothing.
-use mathlib.Core.Path.{_≡_, refl, sym, ap, _∙_}
-use mathlib.Core.Bool.{Bool, true, false, _||_, or-true}
-use mathlib.Core.List.{List, []}
-use Prim.Native.Nat.{ℕ, _+_, _≤_}
+use mathlib.Core.Path.{_≡_, refl}
+use mathlib.Core.Bool.{Bool, true, false, or-true}
+use mathlib.Core.List.{[]}
+use Prim.Native.Nat.{_+_, _≤_}
 use borrow.Author.Tests.{ltb-false}
 use lib.Dec.{ltb}
 use Rattle.model.specs.Limits.{greatest}

@@ -1,38 +1,35 @@
 -- DEMAND 3: after any calls in any order, refused ones among them, a choice of the inputs extends to the fresh variables with all clauses and
 -- both answers true exactly where the weighted sum of the accepted terms lies between the answered bounds. Assumes nothing.
-use mathlib.Core.Path.{_≡_, refl, sym, ap, _∙_, subst}
+use mathlib.Core.Path.{_≡_, refl, sym, ap, _∙_}
 use mathlib.Core.Logic.{_≢_, _↔_}
 use mathlib.Core.Bool.{Bool, true, false, cond, _&&_}
 use mathlib.Core.List.{List, [], _∷_, _++_}
 use mathlib.Core.Option.{Option, none, some}
-use Prim.Native.Nat.{ℕ, zero, suc, _+_, _-_, _≤_, _<_}
-use native.Mathlib.Nat.{zero-add}
+use Prim.Native.Nat.{ℕ, zero, suc, _+_, _-_, _≤_}
 use native.Mathlib.Omega.{arith}
 use borrow.Author.Tests.{ltb-true, ltb-false, ne-eqb, eq-eqb}
-use lib.Dec.{T, eqb, ltb, leb}
+use lib.Dec.{eqb, ltb, leb}
 use lib.IntN.{ℤ}
 use lib.ListN.{length}
 use Rattle.model.specs.Limits.{inRange}
-use Rattle.model.specs.Logic.{Lit, pL, nL, litTrue, Term, weightedSum, clausesTrue}
+use Rattle.model.specs.Logic.{Term, weightedSum, clausesTrue}
 use Rattle.model.specs.Words.{wordsTrue}
-use Rattle.model.specs.Replies.{Reply, NotEncoded, Unsat, Damaged}
+use Rattle.model.specs.Replies.{NotEncoded, Unsat, Damaged}
 use Rattle.model.specs.Signs.{Dir, iff, onlyif}
 use Rattle.model.specs.Buckets.{Pending}
 use Rattle.model.specs.Machine.{Party, Machine, pendingOf, pending, emptyParty, totalOf, Record, recordAt, markedIn, findFrom, find}
-use Rattle.model.specs.Bounds.{Range, Clauses}
+use Rattle.model.specs.Bounds.{Clauses}
 use Rattle.model.specs.Calls.{start, encodeUp, encodeDown, encodeBoth, Enforced, nothing, literal, refused, enforceDamaged, boundLit, answer, enforceUpper, enforceLower}
 use Rattle.meaning.specs.Histories.{Call, adding, up, down, both, ranges, reserve, over, move, after, afterAll, taken, allTaken, fresh, Answered, is-nothing, is-literal, answerTrue, bufferTrue, Agree, Extends, Demand3}
-use Rattle.meaning.specs.Worth.{weights}
-use Rattle.meaning.specs.States.{Rec, St, recAt, recsOf, stOf, mk, lookup, Answer, unneeded, lit, unanswered, upLit, loLit, ifNone, totalSt, upper, lower}
+use Rattle.meaning.specs.States.{Rec, recAt, recsOf, stOf, mk, lookup, Answer, unneeded, lit, unanswered, upLit, loLit, ifNone, totalSt, upper, lower}
 use Rattle.meaning.proofs.Words.{words-alone}
 use Rattle.meaning.proofs.Tests.{T-true, T-of}
-use Rattle.meaning.proofs.Invariant.{Inv}
 use Rattle.meaning.proofs.Answers.{ansB, sumAll, meaning}
 use Rattle.meaning.proofs.Records.{find-from, found-at, not-found}
 use Rattle.meaning.proofs.Adding.{weighed-is, pending-length}
 use Rattle.meaning.proofs.Working.{mark-is, rv-at}
 use Rattle.meaning.proofs.Whole.{Whole, Step, refused-step, moved-step, add-step, over-step, fresh-whole}
-use Rattle.meaning.proofs.Encoding.{encode-step, reserve-step, pending-nil}
+use Rattle.meaning.proofs.Encoding.{encode-step, reserve-step}
 
 -- any call
 module _ (F : ℕ) where

@@ -2,24 +2,23 @@
 -- that a choice of values that fits the clauses before goes on to one that fits those after (ext).
 use mathlib.Core.Path.{_≡_, refl, sym, ap, _∙_, subst}
 use mathlib.Core.Logic.{_≢_, _⊎_, inl, inr}
-use mathlib.Core.Bool.{Bool, true, false, not, _&&_, _||_, cond}
-use mathlib.Core.List.{List, [], _∷_, _++_, map}
+use mathlib.Core.Bool.{Bool, true, false, not, cond}
+use mathlib.Core.List.{List, [], _∷_, _++_}
 use Prim.Native.Nat.{ℕ, zero, suc, _+_, _*_, _/_, _%_, _≤_, _<_}
 use native.Mathlib.Omega.{arith}
-use native.Mathlib.Decide.{ℕ-discrete}
-use lib.Dec.{T, eqb, ltb, lt→ltb}
-use lib.ListN.{length, getD, set, length-set}
+use lib.Dec.{T, eqb, ltb}
+use lib.ListN.{length}
 use borrow.Author.Tests.{eqb-true, eqb-false, ltb-true, ltb-false, lt-ltb, eq-eqb, ne-eqb}
-use Rattle.model.specs.Logic.{Lit, pL, nL, neg, variable, litTrue, oneTrue, clausesTrue}
-use Rattle.model.specs.Signs.{Kind, half, full, Bit, sum, carry, Dir, iff, onlyif, Row, signs, rowsAt, gate}
-use Rattle.model.specs.Nodes.{sumWord, carryWord, Node, nodeAt, bitPlace, var, marked, setVar, setMark, litBy, litAt, inTable}
+use native.Mathlib.Nat.{lt-of-lt-of-le}
+use Rattle.model.specs.Logic.{Lit, pL, nL, variable, litTrue, clausesTrue}
+use Rattle.model.specs.Signs.{Kind, half, full, Bit, sum, carry, Dir, signs, gate}
+use Rattle.model.specs.Nodes.{sumWord, carryWord, Node, nodeAt, var, marked, setVar, setMark, litBy, litAt, inTable}
 use Rattle.model.specs.Emit.{Em, gateAt, takeVar, mark, write, children, node, byKind, emit}
 use Rattle.model.specs.Bounds.{plus1, follow, Clauses}
-use Rattle.meaning.specs.Worth.{b2n}
-use Rattle.meaning.proofs.Tests.{and-l, and-r, and-i, T-true, T-of}
+use Rattle.meaning.proofs.Implications.{clauses-append}
+use Rattle.meaning.proofs.Tests.{and-l, and-r, and-i, T-of}
 use Rattle.meaning.proofs.Rows.{third, gateB, rowsHold, rowsAt-is, gate-complete, rows-third}
 use Rattle.meaning.proofs.Access.{Raw, raw-setVar, raw-setMark, node-setVar, node-setMark, var-setMark, marked-setVar, var-setVar, var-kept, var-cases, marked-same, marked-cases, length-setVar, length-setMark}
-use Rattle.meaning.proofs.Comparing.{clauses-append}
 use Rattle.meaning.proofs.Ranges.{Lw, NZs, NZs-append, NZs-mono, ForFull, gate-nz}
 
 abbrev pub Entails : List (List Lit) → List (List Lit) → Type 0
@@ -71,26 +70,19 @@ abbrev taken : Bit → ℕ → Em Clauses → Em Clauses
 taken β n e = record { table = setVar (e .table) β n (e .next); next = e .next + 1; sink = e .sink }
 
 -- the word of a node's bit
-abbrev bitCode : Bit → ℕ
+abbrev pub bitCode : Bit → ℕ
 bitCode sum = 2
 bitCode carry = 3
 
+pub bit-code : (β : Bit) (n : ℕ) → (bitW β n % 4 ≡ bitCode β) × (bitW β n / 4 ≡ n)
+unfolding sumWord carryWord
+bit-code sum n = (omega arith, omega arith)
+bit-code carry n = (omega arith, omega arith)
+
 pub lit-bitW : (t : List ℕ) (β : Bit) (n : ℕ) → litAt t (bitW β n) ≡ pL (var t β n)
-unfolding litAt sumWord carryWord
-lit-bitW t sum n = rw (m4, d4)
-  where
-    m4 : (4 * n + 2) % 4 ≡ 2
-    m4 = omega arith
-
-    d4 : (4 * n + 2) / 4 ≡ n
-    d4 = omega arith
-lit-bitW t carry n = rw (m4, d4)
-  where
-    m4 : (4 * n + 3) % 4 ≡ 3
-    m4 = omega arith
-
-    d4 : (4 * n + 3) / 4 ≡ n
-    d4 = omega arith
+unfolding litAt
+lit-bitW t sum n = let c = bit-code sum n in rw (c .0, c .1)
+lit-bitW t carry n = let c = bit-code carry n in rw (c .0, c .1)
 
 is-bitW : (w n : ℕ) (β : Bit) → w % 4 ≡ bitCode β → w / 4 ≡ n → w ≡ bitW β n
 unfolding sumWord carryWord
@@ -259,11 +251,8 @@ module _ (N F : ℕ) where
     onward = λ v α C G.
         let r = p .onward v α C G in
         let s = q .onward v (r .0) (λ β n l. rw (p .grow .node n) (C β n l)) (r .1) in
-        (s .0, s .1, λ y h. s .2 y (lt-le y (e .next) (e′ .next) h (p .grow .upto)) ∙ r .2 y h);
+        (s .0, s .1, λ y h. s .2 y (lt-of-lt-of-le h (p .grow .upto)) ∙ r .2 y h);
   }
-    where
-      lt-le : (a b c : ℕ) → a < b → b ≤ c → a < c
-      lt-le a b c h k = omega arith
 
   -- a variable is put where none stood: a word's literal is as it was, or the word is that bit's
   abbrev Old : Em Clauses → Em Clauses → ℕ → Type 0
@@ -427,21 +416,8 @@ module _ (N F : ℕ) where
 
   -- the clauses of a bit whose children and own variable stand
   pub known-bit : (t : List ℕ) (β : Bit) (n : ℕ) → n < N → var t β n ≢ 0 → Known t (bitW β n)
-  unfolding sumWord carryWord
-  known-bit t sum n l h = rw (m4, d4) (l, h)
-    where
-      m4 : (4 * n + 2) % 4 ≡ 2
-      m4 = omega arith
-
-      d4 : (4 * n + 2) / 4 ≡ n
-      d4 = omega arith
-  known-bit t carry n l h = rw (m4, d4) (l, h)
-    where
-      m4 : (4 * n + 3) % 4 ≡ 3
-      m4 = omega arith
-
-      d4 : (4 * n + 3) / 4 ≡ n
-      d4 = omega arith
+  known-bit t sum n l h = let c = bit-code sum n in rw (c .0, c .1) (l, h)
+  known-bit t carry n l h = let c = bit-code carry n in rw (c .0, c .1) (l, h)
 
   pub rows-are : (t : List ℕ) (β : Bit) (δ : Dir) (n : ℕ) (α : ℕ → Bool) (a b c o : Bool)
       → litTrue α (litAt t ((nodeAt t n) .a)) ≡ a → litTrue α (litAt t ((nodeAt t n) .b)) ≡ b → litTrue α (litAt t ((nodeAt t n) .c)) ≡ c → litTrue α (litAt t (bitW β n)) ≡ o

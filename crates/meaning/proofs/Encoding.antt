@@ -1,30 +1,28 @@
 -- Encoding and reserving keep the machine's invariant. Assumes nothing.
 use mathlib.Core.Path.{_≡_, refl, sym, ap, ap₂, _∙_, subst}
-use mathlib.Core.Bool.{Bool, true, false, _&&_, _||_}
+use mathlib.Core.Bool.{Bool, true, false, _||_, _&&_}
 use mathlib.Core.List.{List, [], _∷_, _++_, append-nil}
 use Prim.Native.Nat.{ℕ, zero, suc, _+_, _*_, _-_, _/_, _≤_, _<_, min, max}
 use native.Mathlib.Decide.{ℕ-discrete}
 use native.Mathlib.Nat.{add-zero, add-suc, suc-add}
 use native.Mathlib.Omega.{arith}
 use borrow.Author.Tests.{ltb-false, le-leb}
-use lib.Dec.{ltb, leb}
+use lib.Dec.{ltb}
 use lib.IntN.{ℤ}
 use lib.ListN.{length, getD, take, length-append}
 use lib.Seq.{sets, length-sets, take-add}
 use Rattle.model.specs.Limits.{greatest, inRange, mostBounds}
 use Rattle.model.specs.Logic.{Lit, variable, isLit, weightedSum}
 use Rattle.model.specs.Words.{clauseWords, flat}
-use Rattle.model.specs.Replies.{Reply}
 use Rattle.model.specs.Signs.{Bit, Dir, iff, onlyif}
 use Rattle.model.specs.Nodes.{var}
-use Rattle.model.specs.Buckets.{Pending, boxes, ifPending, present}
-use Rattle.model.specs.Emit.{Em, reserveAll}
-use Rattle.model.specs.Machine.{Party, Shared, Machine, pendingOf, pending, weighed, totalOf}
-use Rattle.model.specs.Bounds.{Range, run, upValues, downValues, valuesFrom, elem, missing, Work, stage, plus1, follow, Clauses}
+use Rattle.model.specs.Buckets.{Pending, ifPending, present}
+use Rattle.model.specs.Machine.{Party, Machine, pendingOf, pending, weighed, totalOf}
+use Rattle.model.specs.Bounds.{Range, run, upValues, downValues, valuesFrom, elem, Work, stage, plus1, follow, Clauses}
 use Rattle.model.specs.Damage.{bufferDamaged, sourceDamaged, tablesDamaged, allDamaged}
-use Rattle.model.specs.Calls.{built, tooWide, noNodes, Replied, replied, leaving, known, recordsAfter, work, worked, encodeValues, encodeAsked, encode, reserving, reserveCall}
+use Rattle.model.specs.Calls.{built, tooWide, noNodes, Replied, leaving, known, recordsAfter, work, worked, encodeValues, encodeAsked, encode, reserving, reserveCall}
 use Rattle.model.proofs.Buffer.{sets-before, sets-stand}
-use Rattle.model.proofs.Emission.{onSink, reserve-map, reserve-leaves, reserve-rises, flat-append}
+use Rattle.model.proofs.Emission.{reserve-map, reserve-leaves, reserve-rises, flat-append}
 use Rattle.meaning.specs.Truth.{areLits, areClauses}
 use Rattle.meaning.specs.Worth.{weigh, weights}
 use Rattle.meaning.specs.States.{Rec, St, recAt, recsOf, stOf, emitSt, encodeSt, bounds, reserveSt}

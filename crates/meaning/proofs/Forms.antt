@@ -1,16 +1,15 @@
 -- The builder's shape: children stand below their node, each bucket is left with at most one entry, and whatever holds of the outputs and goes
 -- from a node's bits to its children holds of every entry and of every node.
-use mathlib.Core.Path.{_≡_, refl, sym, ap, _∙_}
+use mathlib.Core.Path.{_≡_, refl}
 use mathlib.Core.Logic.{_≢_}
-use mathlib.Core.Bool.{Bool, true, false}
 use mathlib.Core.List.{List, [], _∷_, _++_}
-use Prim.Native.Nat.{ℕ, zero, suc, _+_, _*_, _-_, _≤_, _<_}
+use Prim.Native.Nat.{ℕ, zero, suc, _+_, _-_, _≤_}
 use native.Mathlib.Nat.{add-zero, add-suc, suc-add}
 use native.Mathlib.Omega.{arith}
 use lib.ListN.{length, length-append}
 use Rattle.model.specs.Signs.{half}
-use Rattle.model.specs.Nodes.{sumWord, carryWord, halfNode, fullNode, Node}
-use Rattle.model.specs.Buckets.{Drained, Made, drain, single, push, build, front, fronts, box, boxes, entries}
+use Rattle.model.specs.Nodes.{sumWord, carryWord, fullNode, Node}
+use Rattle.model.specs.Buckets.{Drained, Made, drain, push, build, front, fronts, box, boxes, entries}
 use Rattle.meaning.proofs.Ranges.{ForFull}
 
 abbrev pub All : (ℕ → Type 0) → List ℕ → Type 0

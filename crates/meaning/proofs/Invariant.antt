@@ -1,28 +1,24 @@
 -- What holds of the machine after every accepted call, and what follows of the clauses.
-use mathlib.Core.Path.{_≡_, refl, sym, ap, _∙_, subst}
-use mathlib.Core.Logic.{_≢_, _⊎_, inl, inr, _↔_}
-use mathlib.Core.Bool.{Bool, true, false, not, cond}
-use mathlib.Core.List.{List, [], _∷_, _++_}
-use mathlib.Core.Option.{Option, none, some}
-use Prim.Native.Nat.{ℕ, zero, suc, _+_, _*_, _/_, _%_, _≤_, _<_, _^_}
+use mathlib.Core.Path.{_≡_, refl}
+use mathlib.Core.Logic.{_≢_}
+use mathlib.Core.Bool.{Bool, false, not}
+use mathlib.Core.List.{List, [], _∷_}
+use Prim.Native.Nat.{ℕ, zero, suc, _+_, _*_, _/_, _%_, _<_, _^_}
 use native.Mathlib.Omega.{arith}
-use lib.Dec.{T, ltb, leb→le, ltb→lt, lt→ltb}
+use lib.Dec.{T, ltb, leb→le}
 use lib.ListN.{length}
-use Rattle.model.specs.Logic.{Lit, pL, nL, neg, variable, litTrue, clausesTrue}
-use Rattle.model.specs.Signs.{Kind, half, full, Bit, sum, carry, Dir, iff, onlyif, signs}
-use Rattle.model.specs.Nodes.{sumWord, carryWord, Node, nodeAt, var, marked, litBy, litAt}
-use Rattle.model.specs.Buckets.{Pending, box, boxes}
-use Rattle.model.specs.Emit.{Em}
-use Rattle.model.specs.Compare.{Outs, outLit, outLits}
-use Rattle.meaning.specs.Worth.{b2n, weigh, weights, value, cnt, valO, outVal}
+use Rattle.model.specs.Logic.{pL, litTrue, clausesTrue}
+use Rattle.model.specs.Signs.{Bit, sum, carry, Dir, iff, onlyif}
+use Rattle.model.specs.Nodes.{sumWord, carryWord, nodeAt, marked, litAt}
+use Rattle.model.specs.Buckets.{Pending, boxes}
+use Rattle.model.specs.Compare.{outLits}
+use Rattle.meaning.specs.Worth.{weigh, value}
 use Rattle.meaning.specs.States.{Rec, St, comp, mk}
-use Rattle.meaning.proofs.Tests.{and-l, and-r}
-use Rattle.meaning.proofs.Rows.{third, in3, out2, gate-sound, inOrder}
+use Rattle.meaning.proofs.Rows.{gate-sound, inOrder}
 use Rattle.meaning.proofs.Sums.{Ord, nodeIn, nodeOut}
-use Rattle.meaning.proofs.Forms.{All, Alls}
-use Rattle.meaning.proofs.Emitting.{Entails, Dep, Mk, MkBy, bitW, OK, OutW, Base, Kid, Known, Good, Canon, lit-bitW, rows-are}
+use Rattle.meaning.proofs.Forms.{Alls}
+use Rattle.meaning.proofs.Emitting.{bit-code, Entails, Mk, OK, OutW, Base, Good, rows-are}
 use Rattle.meaning.proofs.Canonical.{canonV}
-use Rattle.meaning.proofs.Comparing.{compare-if, compare-only}
 
 -- a term's word is a literal of an input variable
 abbrev pub Leaf : ℕ → ℕ → Type 0
@@ -75,24 +71,10 @@ module _ (F : ℕ) where
 
   -- a node's bit is marked where its word is
   mk-sum : (t : List ℕ) (δ : Dir) (n : ℕ) → Mk t δ (sumWord n) → T (marked t sum δ n)
-  unfolding sumWord
-  mk-sum t δ n h = rw (m4, d4) at h
-    where
-      m4 : (4 * n + 2) % 4 ≡ 2
-      m4 = omega arith
-
-      d4 : (4 * n + 2) / 4 ≡ n
-      d4 = omega arith
+  mk-sum t δ n h = let c = bit-code sum n in rw (c .0, c .1) at h
 
   mk-car : (t : List ℕ) (δ : Dir) (n : ℕ) → Mk t δ (carryWord n) → T (marked t carry δ n)
-  unfolding carryWord
-  mk-car t δ n h = rw (m4, d4) at h
-    where
-      m4 : (4 * n + 3) % 4 ≡ 3
-      m4 = omega arith
-
-      d4 : (4 * n + 3) / 4 ≡ n
-      d4 = omega arith
+  mk-car t δ n h = let c = bit-code carry n in rw (c .0, c .1) at h
 
   -- where the outputs are marked, every node is
   pub all-marked : (st : St) (δ : Dir) → Inv st → Alls (Mk (st .em .table) δ) (boxes (st .outs)) → (n : ℕ) → n < st .N → T (marked (st .em .table) sum δ n) × T (marked (st .em .table) carry δ n)

@@ -1,20 +1,18 @@
 -- Every literal is of a variable from 1 to below x, so the buffer's words say the clauses.
-use mathlib.Core.Path.{_≡_, refl, sym, ap, _∙_}
+use mathlib.Core.Path.{_≡_, refl}
 use mathlib.Core.Logic.{_≢_}
-use mathlib.Core.Bool.{Bool, true, false, not, cond, _&&_, _||_}
+use mathlib.Core.Bool.{Bool, true, false, cond}
 use mathlib.Core.List.{List, [], _∷_, _++_}
 use mathlib.Core.Option.{Option, none, some}
-use Prim.Native.Nat.{ℕ, zero, suc, _+_, _*_, _/_, _%_, _^_, _≤_, _<_}
+use Prim.Native.Nat.{ℕ, zero, suc, _+_, _/_, _%_, _^_, _≤_, _<_}
 use native.Mathlib.Omega.{arith}
-use native.Mathlib.Nat.{mod-eq-of-lt}
 use lib.Dec.{eqb}
 use lib.ListN.{length}
-use lib.IntN.{ℤ, pos, negsuc}
-use Rattle.model.specs.Logic.{Lit, pL, nL, neg, variable, litTrue, oneTrue, clausesTrue}
+use Rattle.model.specs.Logic.{Lit, pL, nL, neg, variable}
 use Rattle.model.specs.Signs.{Kind, half, full, Bit, sum, carry, Dir, iff, onlyif, Row, signs, signed, rowAt, rowsAt}
 use Rattle.model.specs.Compare.{Outs, ahead, above, higher, comparator}
 use Rattle.meaning.specs.States.{comp}
-use Rattle.meaning.proofs.Comparing.{ownIf, ifClauses, ownOnly, onlyAux, onlyClauses}
+use Rattle.meaning.proofs.Comparing.{ownIf, ifClauses, ownOnly, onlyAux}
 
 abbrev pub ForFull : Kind → Type 0 → Type 0
 ForFull half X = Unit {0}

@@ -7,21 +7,20 @@ use native.Mathlib.Nat.{pow-le-pow-right}
 use native.Mathlib.Decide.{decLt}
 use native.Mathlib.Omega.{arith}
 use borrow.Author.Tests.{eqb-true, ltb-false}
-use lib.Dec.{eqb, ltb}
-use lib.ListN.{length, take, replicate, length-replicate}
-use lib.Seq.{sets}
+use lib.Dec.{eqb}
+use lib.ListN.{length, replicate, length-replicate}
 use Rattle.model.specs.Limits.{greatest, mostTerms, mostTotal, mostOutputs, mostNodes}
 use Rattle.model.specs.Signs.{Bit}
 use Rattle.model.specs.Nodes.{Node, putNodes, var}
-use Rattle.model.specs.Buckets.{Pending, bits, heaviest, width, Made, front, fronts, structure, ifPending, positionsAfter, nodesAfter, Outputs, present, outputsOf, Extended, extend}
-use Rattle.model.specs.Machine.{Party, Machine, pendingOf, pending, weighed, totalOf}
+use Rattle.model.specs.Buckets.{Pending, bits, heaviest, width, Made, fronts, structure, ifPending, positionsAfter, nodesAfter, Outputs, present, outputsOf, Extended, extend}
+use Rattle.model.specs.Machine.{Machine, pendingOf, pending, weighed, totalOf}
 use Rattle.model.specs.Bounds.{Clauses}
 use Rattle.model.specs.Calls.{built, tooWide, noNodes}
 use Rattle.model.proofs.Buffer.{sets-stand}
 use Rattle.meaning.specs.Worth.{weigh, weights}
-use Rattle.meaning.specs.States.{St, stOf, buildSt}
+use Rattle.meaning.specs.States.{stOf, buildSt}
 use Rattle.meaning.proofs.Tables.{puts}
-use Rattle.meaning.proofs.Sums.{Fit}
+use Rattle.meaning.proofs.Sums.{Fit, weigh-append}
 use Rattle.meaning.proofs.Invariant.{leaf, Inv}
 use Rattle.meaning.proofs.Answers.{sumAll}
 use Rattle.meaning.proofs.Building.{buildSt-inv}
@@ -71,10 +70,6 @@ present-back ws h = sets-stand ws (replicate mostOutputs 0) 0 (length ws) refl (
 weights-append : (ts us : List Pending) → weights (ts ++ us) ≡ weights ts + weights us
 weights-append [] us = omega arith
 weights-append (t ∷ ts) us = omega (arith, weights-append ts us)
-
-weigh-append : (v : ℕ → Bool) (ts us : List Pending) → weigh v (ts ++ us) ≡ weigh v ts + weigh v us
-weigh-append v [] us = omega arith
-weigh-append v (t ∷ ts) us = omega (arith, weigh-append v ts us)
 
 -- where terms are pending
 extend-some : (ps : List Pending) (os : Outputs) (n : ℕ) (t : List ℕ) (u : Pending) (us : List Pending) → ps ≡ u ∷ us

@@ -1,13 +1,13 @@
 -- The bound table's words do what the list of records does: finding, marking and appending a record. Assumes nothing.
 use mathlib.Core.Path.{_≡_, refl, sym, ap, ap₂, _∙_}
-use mathlib.Core.Logic.{_≢_, _⊎_, inl, inr}
+use mathlib.Core.Logic.{_≢_}
 use mathlib.Core.Bool.{Bool, true, false, cond, _||_}
 use mathlib.Core.List.{List, [], _∷_, _++_}
-use mathlib.Core.Option.{Option, none, some}
+use mathlib.Core.Option.{none, some}
 use Prim.Native.Nat.{ℕ, zero, suc, _+_, _*_, _≤_, _<_, _^_}
 use native.Mathlib.Nat.{add-zero, add-suc, suc-add}
 use native.Mathlib.Omega.{arith}
-use lib.Dec.{T, eqb, ltb}
+use lib.Dec.{eqb, ltb}
 use lib.ListN.{length, getD, set, length-set}
 use lib.Seq.{sets, getD-set-same, getD-set-other}
 use borrow.Author.Tests.{lt-ltb, le-ltb, eq-eqb}
@@ -20,7 +20,7 @@ use Rattle.model.specs.Calls.{clearBounds}
 use Rattle.meaning.specs.States.{Rec, mk, setMk, lookup, markRec, recAt, recsOf, clearRecs}
 use Rattle.meaning.proofs.Tests.{T-true}
 use Rattle.meaning.proofs.Access.{add-same, add-other}
-use Rattle.meaning.proofs.Tables.{sets-out, sets-past, sets-in}
+use Rattle.meaning.proofs.Tables.{sets-out, sets-in}
 
 -- the words after a mark, and after a new record
 abbrev pub markAt : List ℕ → Dir → ℕ → List ℕ

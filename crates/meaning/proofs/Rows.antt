@@ -1,13 +1,14 @@
 -- The gate facts, proved once over the sign table: one computed test for each kind, over all choices of five Booleans.
-use mathlib.Core.Path.{_≡_, refl, sym, ap}
-use mathlib.Core.Bool.{Bool, true, false, not, _&&_, _||_, xor}
+use mathlib.Core.Path.{_≡_, refl, sym}
+use mathlib.Core.Bool.{Bool, true, false, not, _&&_, _||_}
 use mathlib.Core.List.{List, [], _∷_, map}
-use Prim.Native.Nat.{ℕ, zero, suc, _+_, _*_, _≤_}
-use lib.Dec.{T, leb, leb→le, eqb, eqb→eq}
+use Prim.Native.Nat.{ℕ, zero, suc, _+_, _*_}
+use lib.Dec.{T, leb, eqb, eqb→eq}
 use Rattle.model.specs.Logic.{Lit, pL, nL, neg, litTrue, oneTrue, clausesTrue}
 use Rattle.model.specs.Signs.{Kind, half, full, Bit, sum, carry, Dir, iff, onlyif, Row, signs, signed, rowAt, rowsAt}
 use Rattle.meaning.specs.Worth.{b2n}
-use Rattle.meaning.proofs.Tests.{and-l, and-r, and-i, imp, imp-e, all, all-at, all5, all5-at}
+use Rattle.meaning.proofs.Implications.{neg-true}
+use Rattle.meaning.proofs.Tests.{and-i, imp, imp-e, all, all-at, all5, all5-at}
 
 -- a row at four values
 abbrev pub signedB : ℕ → Bool → Bool → Bool
@@ -97,20 +98,11 @@ gate-adds a b c =
     eqb→eq (out2 (parity a b c) (majority a b c)) (in3 a b c) (all-at (λ c′. eqb (out2 (parity a b c′) (majority a b c′)) (in3 a b c′)) (all-at (λ b′. all (λ c′. eqb (out2 (parity a b′ c′) (majority a b′ c′)) (in3 a b′ c′))) (all-at (λ a′. all (λ b′. all (λ c′. eqb (out2 (parity a′ b′ c′) (majority a′ b′ c′)) (in3 a′ b′ c′)))) adds-all a) b) c)
 
 -- a clause made of a row is true exactly when the row holds at the literals' values
-pub neg-not : (α : ℕ → Bool) (l : Lit) → litTrue α (neg l) ≡ not (litTrue α l)
-unfolding litTrue neg
-neg-not α (pL n) = refl
-neg-not α (nL n) = sym (not-not (α n))
-  where
-    not-not : (b : Bool) → not (not b) ≡ b
-    not-not true = refl
-    not-not false = refl
-
 signed-is : (α : ℕ → Bool) (s : ℕ) (l : Lit) (ls : List Lit) → oneTrue α (signed s l ls) ≡ signedB s (litTrue α l) (oneTrue α ls)
 unfolding signed litTrue oneTrue
 signed-is α zero l ls = refl
 signed-is α (suc zero) l ls = refl
-signed-is α (suc (suc n)) l ls = rw (neg-not α l)
+signed-is α (suc (suc n)) l ls = rw (neg-true α l)
 
 pub rowAt-is : (α : ℕ → Bool) (r : Row) (ls : List Lit) → oneTrue α (rowAt r ls) ≡ rowB r (map (litTrue α) ls)
 unfolding oneTrue rowAt

@@ -1,33 +1,33 @@
 -- Start, add, reserve and start over keep the invariant.
-use mathlib.Core.Path.{_≡_, refl, sym, ap, _∙_, subst, fun-ext}
-use mathlib.Core.Logic.{_≢_, _⊎_, inl, inr}
-use mathlib.Core.Bool.{Bool, true, false, not, cond, _&&_}
-use mathlib.Core.List.{List, [], _∷_, _++_, map}
-use Prim.Native.Nat.{ℕ, zero, suc, _+_, _*_, _/_, _%_, _≤_, _<_, _^_}
+use mathlib.Core.Path.{_≡_, refl, _∙_, fun-ext}
+use mathlib.Core.Logic.{inl}
+use mathlib.Core.Bool.{Bool, true, false, cond, _&&_}
+use mathlib.Core.List.{List, [], _∷_, map}
+use Prim.Native.Nat.{ℕ, zero, suc, _+_, _*_, _/_, _%_, _≤_, _<_}
 use native.Mathlib.Omega.{arith}
 use native.Mathlib.Decide.{ℕ-discrete}
 use lib.Dec.{T, ltb, eqb}
 use lib.ListN.{length, getD, set, length-set}
 use lib.Seq.{getD-set-same, getD-set-other}
-use borrow.Author.Tests.{eqb-true, ltb-true}
-use Rattle.model.specs.Logic.{Term, Lit, pL, nL, variable, litTrue, clausesTrue}
+use borrow.Author.Tests.{eqb-true}
+use native.Mathlib.Nat.{lt-of-lt-of-le}
+use Rattle.model.specs.Logic.{Term, variable, litTrue, clausesTrue}
 use Rattle.model.specs.Signs.{Bit, sum, carry, Dir, iff, onlyif}
-use Rattle.model.specs.Nodes.{inTable, sumWord, carryWord, Node, nodeAt, bitPlace, markPlace, bitAt, var, marked, litBy, litAt}
-use Rattle.model.specs.Buckets.{Pending, box, boxes}
+use Rattle.model.specs.Nodes.{inTable, nodeAt, markPlace, var, marked, litBy, litAt}
+use Rattle.model.specs.Buckets.{Pending, boxes}
 use Rattle.model.specs.Emit.{Em, takeVar, children, reserveNode, reserve, reserveAll}
 use Rattle.model.specs.Machine.{addTo, asPending, addAll}
 use Rattle.model.specs.Bounds.{plus1, Clauses}
 use Rattle.model.specs.Calls.{clearNodes}
 use Rattle.meaning.specs.Worth.{b2n, weigh, value}
 use Rattle.meaning.specs.States.{Rec, St, start, reserveSt, addSt, clearRecs, overSt, mk}
-use Rattle.meaning.proofs.Sums.{Ord, nodeIn, nodeOut, Ord-refl}
-use Rattle.meaning.proofs.Forms.{All, Alls}
+use Rattle.meaning.proofs.Sums.{Ord-refl}
 use Rattle.meaning.proofs.Tables.{no-mark}
 use Rattle.meaning.proofs.Access.{Raw, raw-set, node-set}
-use Rattle.meaning.proofs.Emitting.{Kid, KidBy, Base, Known, KnownBy, Good, Res, Res-refl, Res-trans, Took, take-ok, same-word}
+use Rattle.meaning.proofs.Emitting.{Base, Known, KnownBy, Res, Res-refl, Res-trans, Took, take-ok, same-word}
 use Rattle.meaning.proofs.Canonical.{canonV, canon-same}
-use Rattle.meaning.proofs.Invariant.{Leaf, Leaves, leafBy, leaf, AllR, RecOK, canon, Fits, Inv}
-use Rattle.meaning.proofs.Advance.{AllR-map, withEm, advance}
+use Rattle.meaning.proofs.Invariant.{Leaf, Leaves, leafBy, leaf, AllR, RecOK, canon, Inv}
+use Rattle.meaning.proofs.Advance.{AllR-map, advance}
 
 module _ (F : ℕ) where
   -- the empty machine
@@ -62,7 +62,7 @@ module _ (F : ℕ) where
       first = h;
       fresh = up;
       has = λ β δ n l k. absurd (omega arith);
-      low = λ w k. lt-le (variable (litAt t w)) F next (start-low t w k) up;
+      low = λ w k. lt-of-lt-of-le (start-low t w k) up;
       dep = λ α α′ e. refl;
       lf-a = λ n l. absurd (omega arith);
       lf-b = λ n l. absurd (omega arith);
@@ -79,9 +79,6 @@ module _ (F : ℕ) where
     recs = tt;
     fits = λ α. (α, record { good = record { val = λ w k. start-val t α w k; holds = tt }; same = λ y l. refl; recs = tt });
   }
-    where
-      lt-le : (a b c : ℕ) → a < b → b ≤ c → a < c
-      lt-le a b c p q = omega arith
 
   -- add
   addTo-leaves : (t : Pending) (ps : List Pending) → Leaf F (t .word) → Leaves F ps → Leaves F (addTo t ps)

@@ -1,16 +1,15 @@
 -- The buckets' law: each step keeps the weighted value of all entries, in the direction that the nodes' rows give.
 use mathlib.Core.Path.{_≡_, refl, sym, ap, _∙_}
 use mathlib.Core.Bool.{Bool, true, false}
-use mathlib.Core.List.{List, [], _∷_, _++_, append-nil}
+use mathlib.Core.List.{List, [], _∷_, _++_}
 use Prim.Native.Nat.{ℕ, zero, suc, _+_, _*_, _/_, _%_, _≤_, _<_, _^_}
-use native.Mathlib.Nat.{le-refl, add-zero, zero-add, suc-add, add-suc}
+use native.Mathlib.Nat.{add-zero, zero-add, suc-add, add-suc}
 use native.Mathlib.Omega.{arith}
 use lib.ListN.{length}
-use lib.Dec.{T}
-use Rattle.model.specs.Signs.{Kind, half, full, Dir, iff, onlyif}
-use Rattle.model.specs.Nodes.{sumWord, carryWord, halfNode, fullNode, Node}
-use Rattle.model.specs.Buckets.{Drained, Made, drain, single, push, build, Pending, pickBit, lows, highs, spread, join}
-use Rattle.meaning.specs.Worth.{b2n, cnt, value, weigh, weights}
+use Rattle.model.specs.Signs.{Dir, iff, onlyif}
+use Rattle.model.specs.Nodes.{sumWord, carryWord, Node}
+use Rattle.model.specs.Buckets.{drain, push, build, Pending, pickBit, lows, highs, spread, join}
+use Rattle.meaning.specs.Worth.{b2n, cnt, value, weigh}
 use Rattle.meaning.proofs.Rows.{third, in3, out2}
 
 abbrev pub Ord : Dir → ℕ → ℕ → Type 0
@@ -123,24 +122,11 @@ join-law v [] os = omega arith
 join-law v (q ∷ qs) [] = omega arith
 join-law v (q ∷ qs) (o ∷ os) = omega (arith, cnt-append v q o, join-law v qs os)
 
--- THE LEDGER of a list of nodes, terms and outputs: for every choice of the words' values that the nodes' rows allow, the outputs' value is
--- in order with the weighted sum
-abbrev pub Ledger : Dir → List Node → List Pending → List (List ℕ) → Type 0
-Ledger δ nds ts os = (v : ℕ → Bool) → Each δ v 0 nds → Ord δ (weigh v ts) (value v os)
-
-weigh-append : (v : ℕ → Bool) (ts us : List Pending) → weigh v (ts ++ us) ≡ weigh v ts + weigh v us
+pub weigh-append : (v : ℕ → Bool) (ts us : List Pending) → weigh v (ts ++ us) ≡ weigh v ts + weigh v us
 weigh-append v [] us = omega arith
 weigh-append v (t ∷ ts) us = omega (arith, weigh-append v ts us)
 
-ledger-step : (δ : Dir) (old new os in' outs all : ℕ) → all ≡ old + new → in' ≡ new + os → Ord δ old os → Ord δ in' outs → Ord δ all outs
+-- a ledger over old outputs goes on over new terms
+pub ledger-step : (δ : Dir) (old new os in' outs all : ℕ) → all ≡ old + new → in' ≡ new + os → Ord δ old os → Ord δ in' outs → Ord δ all outs
 ledger-step iff old new os in' outs all p q h k = omega arith
 ledger-step onlyif old new os in' outs all p q h k = omega arith
-
--- a build over the old outputs keeps the ledger
-pub ledger-build : (δ : Dir) (nds : List Node) (ts new : List Pending) (os : List (List ℕ)) (k f : ℕ) → Fit k new → Ledger δ nds ts os
-    → Ledger δ (nds ++ (build f (length nds) (join (spread k new) os)) .made) (ts ++ new) ((build f (length nds) (join (spread k new) os)) .outs)
-ledger-build δ nds ts new os k f fit old v e =
-    let qs = join (spread k new) os in
-    let es = Each-append δ v 0 nds ((build f (length nds) qs) .made) e in
-    ledger-step δ (weigh v ts) (weigh v new) (value v os) (value v qs) (value v ((build f (length nds) qs) .outs)) (weigh v (ts ++ new)) (weigh-append v ts new)
-    (join-law v (spread k new) os ∙ ap (λ (x : ℕ). x + value v os) (spread-law v k new fit)) (old v (es .0)) (build-law δ v f (length nds) qs (rw zero-add at (es .1)))

@@ -1,8 +1,8 @@
 -- The nodes that the builder makes, written to the table.
 use mathlib.Core.Path.{_≡_, refl, sym, ap, _∙_}
 use mathlib.Core.Logic.{_≢_}
-use mathlib.Core.Bool.{Bool, true, false}
-use mathlib.Core.List.{List, [], _∷_, _++_}
+use mathlib.Core.Bool.{false}
+use mathlib.Core.List.{List, [], _∷_}
 use Prim.Native.Nat.{ℕ, zero, suc, _+_, _*_, _≤_, _<_}
 use native.Mathlib.Nat.{add-zero, add-suc, suc-add}
 use native.Mathlib.Omega.{arith}
@@ -11,8 +11,8 @@ use lib.ListN.{length, getD, set, length-set}
 use lib.Seq.{sets, length-sets, getD-set-same, getD-set-other}
 use borrow.Author.Tests.{lt-ltb}
 use Rattle.model.proofs.Literals.{by-test}
-use Rattle.model.specs.Signs.{Kind, half, full, Bit, sum, carry, Dir, iff, onlyif}
-use Rattle.model.specs.Nodes.{halfNode, Node, kindOf, nodeAt, bitPlace, markPlace, bitAt, var, marked, kindNo, nodeWords, inTable, putNode, putNodes}
+use Rattle.model.specs.Signs.{Kind, half, full, Bit, sum, carry, Dir}
+use Rattle.model.specs.Nodes.{halfNode, Node, kindOf, nodeAt, markPlace, bitAt, var, marked, kindNo, nodeWords, inTable, putNode, putNodes}
 
 pub sets-out : (vs l : List ℕ) (i k d : ℕ) → k < i → getD (sets l i vs) k d ≡ getD l k d
 sets-out [] l i k d h = refl

@@ -1,33 +1,29 @@
 -- No test finds the machine damaged that calls lead to, unless the source was moved past 536,870,912. Assumes nothing.
-use mathlib.Core.Path.{_≡_, refl, sym, ap, ap₂, _∙_, subst}
-use mathlib.Core.Logic.{_≢_, _⊎_, inl, inr}
-use mathlib.Core.Bool.{Bool, true, false, not, cond, _&&_, _||_, or-true}
+use mathlib.Core.Path.{_≡_, refl, ap, _∙_}
+use mathlib.Core.Logic.{_≢_, inl, inr}
+use mathlib.Core.Bool.{Bool, true, false, not, _&&_, _||_}
 use mathlib.Core.List.{List, [], _∷_, _++_}
 use Prim.Native.Nat.{ℕ, zero, suc, _+_, _*_, _/_, _%_, _≤_, _<_}
-use native.Mathlib.Nat.{add-zero, add-suc, suc-add, zero-add}
-use native.Mathlib.Decide.{ℕ-discrete}
 use native.Mathlib.Omega.{arith}
-use borrow.Author.Tests.{ne-eqb, eq-eqb, lt-ltb, le-ltb, le-leb, lt-leb, ltb-true, ltb-false}
+use borrow.Author.Tests.{ne-eqb, lt-ltb, le-ltb, lt-leb}
 use lib.Dec.{eqb, ltb, leb}
 use lib.ListN.{length, getD, drop, replicate, length-replicate}
-use lib.Seq.{sets, sets-eq, drop-nil}
+use lib.Seq.{sets-eq}
 use Rattle.model.specs.Limits.{greatest, inRange, mostTerms, mostTotal, mostOutputs, mostNodes, mostBounds}
-use Rattle.model.specs.Logic.{variable}
-use Rattle.model.specs.Signs.{Kind, half, full, Bit, sum, carry}
-use Rattle.model.specs.Nodes.{nodeAt, kindOf, var}
+use Rattle.model.specs.Signs.{sum, carry}
+use Rattle.model.specs.Nodes.{nodeAt, var}
 use Rattle.model.specs.Buckets.{Pending, boxes, Outputs, present, outputsOf}
-use Rattle.model.specs.Machine.{Party, Machine, pending, totalOf}
+use Rattle.model.specs.Machine.{Machine, pending, totalOf}
 use Rattle.model.specs.Bounds.{Clauses}
 use Rattle.model.specs.Damage.{badPending, anyBad, badOutput, anyBadOutput, partyDamaged, badChild, badThird, badNode, anyBadNode, nodesDamaged, anyBadBound, boundsDamaged, bufferDamaged, sourceDamaged, tablesDamaged, allDamaged}
 use Rattle.model.proofs.Literals.{range}
-use Rattle.meaning.specs.States.{Rec, St, recAt, recsOf, stOf}
-use Rattle.meaning.proofs.Forms.{All, Alls}
+use Rattle.meaning.specs.States.{stOf}
+use Rattle.meaning.proofs.Forms.{Alls}
 use Rattle.meaning.proofs.Ranges.{ForFull}
 use Rattle.meaning.proofs.Access.{Raw}
-use Rattle.meaning.proofs.Emitting.{KidBy, Kid, LfBy, Lf, OutW, Base, bitW, lit-bitW, known-bit}
-use Rattle.meaning.proofs.Invariant.{Leaf, Leaves, AllR, RecOK, Inv}
-use Rattle.meaning.proofs.Working.{rv-at}
-use Rattle.meaning.proofs.Whole.{Heavy, Tidy, Whole}
+use Rattle.meaning.proofs.Emitting.{KidBy, Kid, LfBy, Lf, OutW, Base}
+use Rattle.meaning.proofs.Invariant.{Leaf, Leaves}
+use Rattle.meaning.proofs.Whole.{Heavy, Whole}
 
 -- a connection word that is a literal in range, or a bit of a node below n
 module _ (F : ℕ) (top : F ≤ greatest + 1) where

@@ -3,30 +3,30 @@
 use mathlib.Core.Path.{_≡_, refl, sym, ap, _∙_}
 use mathlib.Core.Logic.{_≢_}
 use mathlib.Core.Bool.{Bool, true, false, cond, _||_}
-use mathlib.Core.List.{List, [], _∷_, _++_, map}
-use Prim.Native.Nat.{ℕ, zero, suc, _+_, _*_, _≤_, _<_}
+use mathlib.Core.List.{List, [], _∷_}
+use Prim.Native.Nat.{ℕ, suc, _+_, _*_, _≤_, _<_}
 use native.Mathlib.Omega.{arith}
 use borrow.Author.Tests.{eqb-false, ltb-false}
 use lib.Dec.{eqb, ltb, leb}
 use lib.IntN.{ℤ}
 use lib.ListN.{length, getD, take, length-replicate}
-use lib.Seq.{sets, length-sets}
+use lib.Seq.{length-sets}
 use Rattle.model.specs.Limits.{greatest, inRange, mostTerms, mostTotal, mostOutputs, mostNodes, mostBounds}
 use Rattle.model.specs.Logic.{variable, Term, total, weightedSum}
 use Rattle.model.specs.Words.{flat}
-use Rattle.model.specs.Replies.{Reply, number, Accepted, BadTerm, SumTooLarge, PendingFull, Damaged}
+use Rattle.model.specs.Replies.{number}
 use Rattle.model.specs.Signs.{Bit}
 use Rattle.model.specs.Nodes.{var}
 use Rattle.model.specs.Buckets.{Pending, present, outputsOf}
-use Rattle.model.specs.Machine.{Party, Machine, pendingOf, pending, weighed, totalOf, emptyParty, addTo, asPending, addAll, weightsOf, wordsOf}
+use Rattle.model.specs.Machine.{Machine, pendingOf, pending, weighed, totalOf, emptyParty, addTo, asPending, addAll, weightsOf, wordsOf}
 use Rattle.model.specs.Bounds.{Clauses}
 use Rattle.model.specs.Damage.{partyDamaged, tablesDamaged}
-use Rattle.model.specs.Calls.{start, badTerm, firstBadTerm, withPending, Added, added, add, Replied, replied, clearNodes, clearBounds, overParty, startOver}
-use Rattle.model.proofs.Literals.{by-test, range}
+use Rattle.model.specs.Calls.{start, badTerm, firstBadTerm, withPending, Added, add, Replied, clearNodes, clearBounds, overParty, startOver}
+use Rattle.model.proofs.Literals.{range}
 use Rattle.meaning.specs.Truth.{areClauses}
 use Rattle.meaning.specs.Histories.{withParty, moved, fresh}
-use Rattle.meaning.specs.Worth.{weigh, weights}
-use Rattle.meaning.specs.States.{St, stOf, addSt, raiseSt, overSt}
+use Rattle.meaning.specs.Worth.{weights}
+use Rattle.meaning.specs.States.{stOf, addSt, raiseSt, overSt}
 use Rattle.meaning.proofs.Invariant.{leaf, Inv}
 use Rattle.meaning.proofs.Answers.{sumAll}
 use Rattle.meaning.proofs.Advance.{raiseSt-inv}

@@ -1,14 +1,13 @@
 -- An encoding's work on the bound table's words is the state's work on its list of records, one value after another; and the records that
 -- it appends are those that were counted. Assumes nothing.
-use mathlib.Core.Path.{_≡_, refl, sym, ap, _∙_, subst}
+use mathlib.Core.Path.{_≡_, refl, sym, ap, _∙_}
 use mathlib.Core.Bool.{Bool, true, false, cond, _||_, or-true}
 use mathlib.Core.List.{List, [], _∷_, _++_, append-assoc, append-nil}
-use mathlib.Core.Option.{Option, none, some}
-use Prim.Native.Nat.{ℕ, zero, suc, _+_, _*_, _≤_, _<_}
+use Prim.Native.Nat.{ℕ, suc, _+_, _*_, _≤_, _<_}
 use native.Mathlib.Numerals.{add-one}
 use native.Mathlib.Nat.{zero-add}
 use native.Mathlib.Omega.{arith}
-use borrow.Author.Tests.{ltb-true, ltb-false, lt-ltb, le-ltb}
+use borrow.Author.Tests.{ltb-true, ltb-false}
 use lib.Dec.{eqb, ltb}
 use lib.ListN.{length, getD, length-set}
 use lib.Seq.{length-sets}
@@ -17,11 +16,11 @@ use Rattle.model.specs.Signs.{Dir, iff, onlyif}
 use Rattle.model.specs.Buckets.{Pending}
 use Rattle.model.specs.Emit.{Em}
 use Rattle.model.specs.Compare.{outLits, comparator}
-use Rattle.model.specs.Machine.{recordAt, dirPlace, markedIn, findFrom, find}
+use Rattle.model.specs.Machine.{recordAt, markedIn, findFrom, find}
 use Rattle.model.specs.Bounds.{valuesFrom, elem, missing, Work, recorded, compared, boundAll, emitted, stage, plus1, follow, Clauses}
 use Rattle.model.proofs.Emission.{onSink, emit-map, emit-rises}
 use Rattle.model.proofs.Literals.{by-test}
-use Rattle.meaning.specs.States.{Rec, St, recAt, recsOf, mk, setMk, markRec, lookup, boundBy, boundSt, bounds, writeBound, emitSt, encodeSt}
+use Rattle.meaning.specs.States.{Rec, St, recAt, recsOf, mk, setMk, markRec, boundSt, bounds, writeBound, emitSt, encodeSt}
 use Rattle.meaning.proofs.Records.{markAt, putRec, newRec, find-from, found-at, not-found, mark-at, put-at, new-rec, found-new, mark-last, found-known, values-mark, values-put}
 
 -- the state where clauses stand before the work's, and nothing is pending

@@ -8,7 +8,6 @@ use lib.Dec.{ltb}
 use lib.IntN.{ℤ}
 use Rattle.model.specs.Limits.{greatest, inRange}
 use Rattle.model.specs.Logic.{weightedSum}
-use Rattle.model.specs.Machine.{Machine}
 use Rattle.model.specs.Damage.{tablesDamaged, allDamaged}
 use Rattle.model.specs.Calls.{enforceUpper, enforceLower}
 use Rattle.meaning.specs.Histories.{Call, afterAll, allTaken, fresh, Answered, Extends}
