@@ -1,4 +1,4 @@
--- The laws of the table's words: what a store to a variable or a mark changes, and what it leaves.
+-- The laws of the table's words: what a store to a variable or a mark changes, and what it leaves. Assumes nothing.
 use mathlib.Core.Path.{_≡_, refl, ap, _∙_}
 use mathlib.Core.Logic.{_≢_, _⊎_, inl, inr}
 use mathlib.Core.Bool.{false}

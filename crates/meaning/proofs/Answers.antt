@@ -1,5 +1,5 @@
 -- Demand 3, of any state that the invariant holds of: a choice for the inputs extends to the fresh variables, with every clause and both answers'
--- literals true, exactly when the weighted sum lies between the bounds.
+-- literals true, exactly when the weighted sum lies between the bounds. Assumes nothing.
 use mathlib.Core.Path.{_≡_, refl, sym, ap, _∙_, subst}
 use mathlib.Core.Logic.{_≢_, _↔_}
 use mathlib.Core.Bool.{Bool, true, false, not, cond}

@@ -1,4 +1,4 @@
--- A bound's record and its comparator keep the invariant, once the outputs are emitted in its direction.
+-- A bound's record and its comparator keep the invariant, once the outputs are emitted in its direction. Assumes nothing.
 use mathlib.Core.Path.{_≡_, refl, sym, _∙_, subst}
 use mathlib.Core.Logic.{_≢_}
 use mathlib.Core.Bool.{Bool, true, false, cond}

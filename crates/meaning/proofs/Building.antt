@@ -1,4 +1,4 @@
--- A build keeps the invariant.
+-- A build keeps the invariant. Assumes nothing.
 use mathlib.Core.Path.{_≡_, refl, sym, ap, _∙_, subst}
 use mathlib.Core.Logic.{_≢_, _⊎_, inl, inr}
 use mathlib.Core.Bool.{Bool}
@@ -10,7 +10,7 @@ use native.Mathlib.Decide.{decLt}
 use lib.Dec.{T}
 use lib.ListN.{length, getD}
 use Rattle.model.specs.Logic.{pL}
-use Rattle.model.specs.Signs.{Kind, half, full, Bit, sum, carry, Dir, iff, onlyif}
+use Rattle.model.specs.Signs.{Kind, half, full, Bit, sum, carry, Dir}
 use Rattle.model.specs.Nodes.{halfNode, kindNo, sumWord, carryWord, Node, nodeAt, var, marked, litBy, litAt, putNodes}
 use Rattle.model.specs.Buckets.{width, buckets, buildAll, structure, Pending, pickBit, lows, highs, spread, join, fronts, boxes}
 use Rattle.model.specs.Emit.{Em, gateAt}

@@ -1,4 +1,4 @@
--- The canonical values of the words: the leaves' values as given, and each node's bits by its gate, from node 0 up.
+-- The canonical values of the words: the leaves' values as given, and each node's bits by its gate, from node 0 up. Assumes nothing.
 use mathlib.Core.Path.{_≡_, refl, sym, ap, _∙_}
 use mathlib.Core.Bool.{Bool, cond}
 use mathlib.Core.List.{List}
@@ -9,7 +9,7 @@ use lib.Dec.{eqb}
 use borrow.Author.Tests.{eq-eqb, ne-eqb}
 use Rattle.model.specs.Signs.{Bit, sum, carry, Dir, iff, onlyif}
 use Rattle.model.specs.Nodes.{sumWord, carryWord, Node, nodeAt}
-use Rattle.meaning.proofs.Rows.{third, gateB, out2, gate-adds}
+use Rattle.meaning.proofs.Rows.{third, gateB, gate-adds}
 use Rattle.meaning.proofs.Emitting.{bitW, bit-code, KidBy, Kid, Canon}
 use Rattle.meaning.proofs.Sums.{Ord, nodeIn, nodeOut}
 

@@ -1,8 +1,8 @@
--- The comparators: the 'if' clauses hold exactly when (value > r implies b), the 'only-if' clauses exactly when (b implies value > r).
+-- The comparators: the 'if' clauses hold exactly when (value > r implies b), the 'only-if' clauses exactly when (b implies value > r). Assumes nothing.
 use mathlib.Core.Path.{_≡_, refl, sym, _∙_}
 use mathlib.Core.Logic.{_↔_}
 use mathlib.Core.Bool.{Bool, true, false, not, _&&_, _||_, cond, or-true, and-true, or-false}
-use mathlib.Core.List.{List, [], _∷_, _++_}
+use mathlib.Core.List.{List, [], _∷_}
 use mathlib.Core.Option.{Option, none, some}
 use Prim.Native.Nat.{ℕ, zero, suc, _+_, _*_, _/_, _%_, _≤_, _<_, _^_}
 use native.Mathlib.Omega.{arith}

@@ -1,5 +1,5 @@
 -- The emitter: what it keeps (Base), what it only adds to (Grow), that each new mark has its clauses and its children's marks (new), and
--- that a choice of values that fits the clauses before goes on to one that fits those after (ext).
+-- that a choice of values that fits the clauses before goes on to one that fits those after (ext). Assumes nothing.
 use mathlib.Core.Path.{_≡_, refl, sym, ap, _∙_, subst}
 use mathlib.Core.Logic.{_≢_, _⊎_, inl, inr}
 use mathlib.Core.Bool.{Bool, true, false, not, cond}

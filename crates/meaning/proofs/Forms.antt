@@ -1,5 +1,5 @@
 -- The builder's shape: children stand below their node, each bucket is left with at most one entry, and whatever holds of the outputs and goes
--- from a node's bits to its children holds of every entry and of every node.
+-- from a node's bits to its children holds of every entry and of every node. Assumes nothing.
 use mathlib.Core.Path.{_≡_, refl}
 use mathlib.Core.Logic.{_≢_}
 use mathlib.Core.List.{List, [], _∷_, _++_}

@@ -1,10 +1,9 @@
--- What holds of the machine after every accepted call, and what follows of the clauses.
+-- What holds of the machine after every accepted call, and what follows of the clauses. Assumes nothing.
 use mathlib.Core.Path.{_≡_, refl}
 use mathlib.Core.Logic.{_≢_}
 use mathlib.Core.Bool.{Bool, false, not}
 use mathlib.Core.List.{List, [], _∷_}
-use Prim.Native.Nat.{ℕ, zero, suc, _+_, _*_, _/_, _%_, _<_, _^_}
-use native.Mathlib.Omega.{arith}
+use Prim.Native.Nat.{ℕ, zero, suc, _/_, _%_, _<_, _^_}
 use lib.Dec.{T, ltb, leb→le}
 use lib.ListN.{length}
 use Rattle.model.specs.Logic.{pL, litTrue, clausesTrue}

@@ -1,4 +1,4 @@
--- Every literal is of a variable from 1 to below x, so the buffer's words say the clauses.
+-- Every literal of the clauses that are written is of a variable from 1 to below the next number. Assumes nothing.
 use mathlib.Core.Path.{_≡_, refl}
 use mathlib.Core.Logic.{_≢_}
 use mathlib.Core.Bool.{Bool, true, false, cond}

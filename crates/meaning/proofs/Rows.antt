@@ -1,10 +1,10 @@
--- The gate facts, proved once over the sign table: one computed test for each kind, over all choices of five Booleans.
-use mathlib.Core.Path.{_≡_, refl, sym}
+-- The gate facts, proved once over the sign table: one computed test for each kind, over all choices of five Booleans. Assumes nothing.
+use mathlib.Core.Path.{_≡_, refl}
 use mathlib.Core.Bool.{Bool, true, false, not, _&&_, _||_}
 use mathlib.Core.List.{List, [], _∷_, map}
 use Prim.Native.Nat.{ℕ, zero, suc, _+_, _*_}
 use lib.Dec.{T, leb, eqb, eqb→eq}
-use Rattle.model.specs.Logic.{Lit, pL, nL, neg, litTrue, oneTrue, clausesTrue}
+use Rattle.model.specs.Logic.{Lit, litTrue, oneTrue, clausesTrue}
 use Rattle.model.specs.Signs.{Kind, half, full, Bit, sum, carry, Dir, iff, onlyif, Row, signs, signed, rowAt, rowsAt}
 use Rattle.meaning.specs.Worth.{b2n}
 use Rattle.meaning.proofs.Implications.{neg-true}

@@ -1,4 +1,4 @@
--- Start, add, reserve and start over keep the invariant.
+-- Start, add, reserve and start over keep the invariant. Assumes nothing.
 use mathlib.Core.Path.{_≡_, refl, _∙_, fun-ext}
 use mathlib.Core.Logic.{inl}
 use mathlib.Core.Bool.{Bool, true, false, cond, _&&_}

@@ -1,9 +1,9 @@
--- The buckets' law: each step keeps the weighted value of all entries, in the direction that the nodes' rows give.
-use mathlib.Core.Path.{_≡_, refl, sym, ap, _∙_}
+-- The buckets' law: each step keeps the weighted value of all entries, in the direction that the nodes' rows give. Assumes nothing.
+use mathlib.Core.Path.{_≡_, refl, sym, ap}
 use mathlib.Core.Bool.{Bool, true, false}
 use mathlib.Core.List.{List, [], _∷_, _++_}
 use Prim.Native.Nat.{ℕ, zero, suc, _+_, _*_, _/_, _%_, _≤_, _<_, _^_}
-use native.Mathlib.Nat.{add-zero, zero-add, suc-add, add-suc}
+use native.Mathlib.Nat.{add-zero, suc-add, add-suc}
 use native.Mathlib.Omega.{arith}
 use lib.ListN.{length}
 use Rattle.model.specs.Signs.{Dir, iff, onlyif}

@@ -1,4 +1,4 @@
--- The nodes that the builder makes, written to the table.
+-- The nodes that the builder makes, written to the table. Assumes nothing.
 use mathlib.Core.Path.{_≡_, refl, sym, ap, _∙_}
 use mathlib.Core.Logic.{_≢_}
 use mathlib.Core.Bool.{false}
