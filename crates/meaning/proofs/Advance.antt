@@ -14,9 +14,9 @@ use Rattle.model.specs.Buckets.{boxes}
 use Rattle.model.specs.Emit.{Em, emit, emitAll}
 use Rattle.model.specs.Compare.{outLits}
 use Rattle.model.specs.Bounds.{plus1, follow, Clauses}
-use Rattle.meaning.specs.Worth.{value}
+use Rattle.meaning.specs.Value.{value}
+use Rattle.meaning.proofs.Shape.{Alls, Alls-map}
 use Rattle.meaning.specs.States.{Rec, St, emitSt, raiseSt}
-use Rattle.meaning.proofs.Forms.{Alls, Alls-map}
 use Rattle.meaning.proofs.Emitting.{OutW, Mk, OK, Base, Canon, Grow, Res, Res-refl, Res-trans, OK-kept, known-out, lit-kept, mk-kept, emit-ok}
 use Rattle.meaning.proofs.Ranges.{NZs-mono}
 use Rattle.meaning.proofs.Canonical.{canon-same, canon-is}

@@ -15,10 +15,10 @@ use Rattle.model.specs.Signs.{Dir, iff, onlyif}
 use Rattle.model.specs.Nodes.{litBy, litAt}
 use Rattle.model.specs.Buckets.{Pending, box, boxes}
 use Rattle.model.specs.Compare.{outLit, outLits, comparator}
-use Rattle.meaning.specs.Worth.{b2n, weigh, weights, value, cnt, valO, outVal}
+use Rattle.meaning.specs.Value.{b2n, weigh, value, cnt, Ord}
+use Rattle.meaning.specs.Worth.{weights, valO, outVal}
 use Rattle.meaning.specs.States.{Rec, St, mk, lookup, Answer, unneeded, lit, unanswered, upLit, loLit, ifNone, totalSt, upper, lower}
 use Rattle.meaning.proofs.Tests.{T-of}
-use Rattle.meaning.proofs.Sums.{Ord}
 use Rattle.meaning.proofs.Emitting.{Canon}
 use Rattle.meaning.proofs.Canonical.{canon-leaf, canon-is, canon-each}
 use Rattle.meaning.proofs.Comparing.{compare-if, compare-only}

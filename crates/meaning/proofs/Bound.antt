@@ -16,11 +16,12 @@ use Rattle.model.specs.Buckets.{Pending, box, boxes}
 use Rattle.model.specs.Emit.{Em}
 use Rattle.model.specs.Compare.{Outs, outLits, comparator}
 use Rattle.model.specs.Bounds.{Clauses}
-use Rattle.meaning.specs.Worth.{b2n, weigh, weights, value, cnt, outVal}
+use Rattle.meaning.specs.Value.{b2n, weigh, value, cnt}
+use Rattle.meaning.proofs.Shape.{All, Alls}
+use Rattle.meaning.specs.Worth.{weights, outVal}
 use Rattle.meaning.specs.States.{Rec, St, comp, mk, setMk, lookup, markRec, writeBound, boundBy, boundSt, bounds}
 use Rattle.meaning.proofs.Implications.{clauses-append}
 use Rattle.meaning.proofs.Tests.{and-l, and-r, and-i}
-use Rattle.meaning.proofs.Forms.{All, Alls}
 use Rattle.meaning.proofs.Comparing.{compare-if, compare-only, AgreeO, if-agree, only-agree}
 use Rattle.meaning.proofs.Emitting.{OutW, known-nz, Entails, Dep, Mk, Known, Base, Grow, Canon, OK-kept, known-out, lit-agree, upd, upd-same, upd-other}
 use Rattle.meaning.proofs.Canonical.{canonV, canon-leaf, canon-is, canon-each}

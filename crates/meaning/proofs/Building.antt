@@ -3,23 +3,22 @@ use mathlib.Core.Path.{_≡_, refl, sym, ap, _∙_, subst}
 use mathlib.Core.Logic.{_≢_, _⊎_, inl, inr}
 use mathlib.Core.Bool.{Bool}
 use mathlib.Core.List.{List, [], _∷_, _++_}
-use Prim.Native.Nat.{ℕ, zero, suc, _+_, _*_, _-_, _/_, _%_, _≤_, _<_}
+use Prim.Native.Nat.{ℕ, zero, suc, _+_, _*_, _-_, _/_, _%_, _≤_, _<_, _^_}
 use native.Mathlib.Nat.{add-zero, add-suc, suc-add}
 use native.Mathlib.Omega.{arith}
 use native.Mathlib.Decide.{decLt}
 use lib.Dec.{T}
 use lib.ListN.{length, getD}
 use Rattle.model.specs.Logic.{pL}
-use Rattle.model.specs.Signs.{Kind, half, full, Bit, sum, carry, Dir}
-use Rattle.model.specs.Nodes.{halfNode, kindNo, sumWord, carryWord, Node, nodeAt, var, marked, litBy, litAt, putNodes}
-use Rattle.model.specs.Buckets.{width, buckets, buildAll, structure, Pending, pickBit, lows, highs, spread, join, fronts, boxes}
+use Rattle.model.specs.Signs.{Kind, half, full, Bit, sum, carry, Dir, iff, onlyif}
+use Rattle.model.specs.Nodes.{halfNode, kindNo, sumWord, carryWord, Node, nodeAt, var, marked, litBy, litAt, putNodes, fullNode}
+use Rattle.model.specs.Buckets.{width, buckets, buildAll, structure, Pending, pickBit, lows, highs, spread, join, fronts, boxes, heaviest, entries, build, drain, push}
 use Rattle.model.specs.Emit.{Em, gateAt}
 use Rattle.model.specs.Bounds.{Clauses}
-use Rattle.meaning.specs.Worth.{weigh, value}
+use Rattle.meaning.specs.Value.{weigh, value, Ord, nodeIn, nodeOut, Each, ForFull}
+use Rattle.meaning.proofs.Ledger.{build-law, spread-law, join-law, kept}
+use Rattle.meaning.proofs.Shape.{All, Alls, All-append, All-right, Downs, Bits, build-cover, Below, Stands, build-below, build-ones, boxes-fronts, build-keep, Kids, build-kids, Alls-map}
 use Rattle.meaning.specs.States.{St, built, buildSt}
-use Rattle.meaning.proofs.Sums.{weigh-append, ledger-step, Ord, nodeIn, nodeOut, Each, build-law, Fit, spread-law, join-law}
-use Rattle.meaning.proofs.Forms.{fuel, NoThird, NoThirds, build-thirds, All, Alls, All-append, All-right, Downs, Bits, build-cover, Below, Stands, build-below, build-ones, boxes-fronts, build-keep, Kids, build-kids, Alls-map}
-use Rattle.meaning.proofs.Ranges.{ForFull}
 use Rattle.meaning.proofs.Access.{Raw}
 use Rattle.meaning.proofs.Tables.{Put, puts}
 use Rattle.meaning.proofs.Emitting.{bit-code, OutW, Lf, LfBy, Mk, MkBy, OK, KidBy, Kid, KnownBy, Known, Base, known-mk}
@@ -49,6 +48,44 @@ bits-at : (M : ℕ → Type 0) (n : ℕ) (nds : List Node) → Bits M n nds → 
 bits-at M n [] h i l = absurd (omega arith)
 bits-at M n (nd ∷ nds) h zero l = rw add-zero (h .0)
 bits-at M n (nd ∷ nds) h (suc i) l = rw (add-suc n i, ← suc-add n i) (bits-at M (suc n) nds (h .1) i (omega arith))
+
+-- a half node has no third child
+abbrev NoThird : Node → Type 0
+NoThird nd = nd .kind ≡ half → nd .c ≡ 0
+
+abbrev NoThirds : List Node → Type 0
+NoThirds [] = Unit {0}
+NoThirds (nd ∷ nds) = NoThird nd × NoThirds nds
+
+NoThirds-append : (xs ys : List Node) → NoThirds xs → NoThirds ys → NoThirds (xs ++ ys)
+NoThirds-append [] ys h k = k
+NoThirds-append (x ∷ xs) ys h k = (h .0, NoThirds-append xs ys (h .1) k)
+
+full-third : (a b c : ℕ) → NoThird (fullNode a b c)
+full-third a b c e = absurd (let z : _≡_ {A = ℕ} 0 1 = cc in omega arith)
+
+drain-thirds : (f n : ℕ) (q : List ℕ) → NoThirds ((drain f n q) .made)
+drain-thirds zero n q = tt
+drain-thirds (suc f) n [] = tt
+drain-thirds (suc f) n (a ∷ []) = tt
+drain-thirds (suc f) n (a ∷ (b ∷ [])) = (λ e. refl, tt)
+drain-thirds (suc f) n (a ∷ (b ∷ (c ∷ q))) = (full-third a b c, drain-thirds f (suc n) (q ++ (sumWord n ∷ [])))
+
+build-thirds : (f n : ℕ) (qs : List (List ℕ)) → NoThirds ((build f n qs) .made)
+build-thirds zero n qs = tt
+build-thirds (suc f) n [] = tt
+build-thirds (suc f) n (q ∷ qs) =
+    let r = drain (length q) n q in
+    NoThirds-append (r .made) _ (drain-thirds (length q) n q) (build-thirds f (n + length (r .made)) (push (r .carries) qs))
+
+-- the ledger goes on over the new terms
+ledger-step : (δ : Dir) (old new os outs all : ℕ) → all ≡ old + new → Ord δ old os → Ord δ (new + os) outs → Ord δ all outs
+ledger-step iff old new os outs all p h k = omega arith
+ledger-step onlyif old new os outs all p h k = omega arith
+
+pub weigh-append : (v : ℕ → Bool) (ts us : List Pending) → weigh v (ts ++ us) ≡ weigh v ts + weigh v us
+weigh-append v [] us = omega arith
+weigh-append v (t ∷ ts) us = omega (arith, weigh-append v ts us)
 
 module _ (F : ℕ) where
   below-at : (n : ℕ) (nds : List Node) → Below (Kid F) n nds → (i : ℕ) → i < length nds → let nd = getD nds i (halfNode 0 0) in Kid F (n + i) (nd .a) × Kid F (n + i) (nd .b) × Kid F (n + i) (nd .c)
@@ -245,7 +282,7 @@ module _ (F : ℕ) where
       let l′ : n - N < length made = omega arith in
       subst (λ (m : ℕ). Kid F m ((nodeAt t′ m) .a) × Kid F m ((nodeAt t′ m) .b) × Kid F m ((nodeAt t′ m) .c)) e (rw (P .node-new (n - N) l′) (below-at N made b (n - N) l′))
 
-  pub buildSt-inv : (st : St) → Inv F st → Fit (width (st .pend) (st .outs)) (st .pend) → 8 * (st .N + length ((built st) .made)) ≤ length (st .em .table) → Inv F (buildSt st)
+  pub buildSt-inv : (st : St) → Inv F st → heaviest (st .pend) < 2 ^ 32 → 8 * (st .N + length ((built st) .made)) ≤ length (st .em .table) → Inv F (buildSt st)
   unfolding buildSt structure buildAll buckets
   buildSt-inv st I fit room = record {
     base = record {
@@ -266,10 +303,9 @@ module _ (F : ℕ) where
     };
     right = λ γ δ m l c. right-by γ δ m l (decLt m N) c;
     kids = rw boxed (Alls-out N′ outs₀ kid-outs sound-outs);
-    ledger = λ δ v h. rw boxed (ledger-step δ (weigh v (st .done)) (weigh v (st .pend)) (value v (boxes (st .outs))) (value v qs) (value v outs₀) (weigh v (st .done ++ st .pend)) (weigh-append v (st .done) (st .pend))
-        (join-law v (spread k (st .pend)) (boxes (st .outs)) ∙ ap (λ (x : ℕ). x + value v (boxes (st .outs))) (spread-law v k (st .pend) fit))
+    ledger = λ δ v h. rw boxed (ledger-step δ (weigh v (st .done)) (weigh v (st .pend)) (value v (boxes (st .outs))) (value v outs₀) (weigh v (st .done ++ st .pend)) (weigh-append v (st .done) (st .pend))
         (I .ledger δ v (λ n l. rw (P .node-old n l) at (h n (omega arith))))
-        (build-law δ v (fuel qs) N qs (each-list δ v t′ N made (P .node-new) (λ m p q. h m q))));
+        (kept δ v (st .pend) (st .outs) N fit (each-list δ v t′ N made (P .node-new) (λ m p q. h m q))));
     cover = λ M h o n l. cover′ M h (rw boxed at o) n l (decLt n N);
     leaves = Leaves-append (st .done) (st .pend) (I .leaves) (I .pends);
     pends = tt;
@@ -320,10 +356,10 @@ module _ (F : ℕ) where
       sound-qs = join-in Sound (spread k (st .pend)) (boxes (st .outs)) (spread-in Sound (λ w h. leaf-sound w h) k (st .pend) (I .pends)) sound-old
 
       sound-outs : Alls Sound outs₀
-      sound-outs = build-keep Sound sound-sum sound-car (fuel qs) N qs sound-qs
+      sound-outs = build-keep Sound sound-sum sound-car (length qs + entries qs) N qs sound-qs
 
       sound-kids : Kids Sound sound-sum sound-car made
-      sound-kids = build-kids Sound sound-sum sound-car (fuel qs) N qs sound-qs
+      sound-kids = build-kids Sound sound-sum sound-car (length qs + entries qs) N qs sound-qs
 
       nz-outs : Alls (λ w. w ≢ 0) outs₀
       nz-outs = Alls-map Sound (λ w. w ≢ 0) (λ w h. h .0) outs₀ sound-outs
@@ -334,16 +370,16 @@ module _ (F : ℕ) where
 
       raw-by : (n : ℕ) → n < N′ → Dec (n < N) → Raw t′ n
       raw-by n l (yes h) = old-raw t t′ N made P n h (B .raw n h)
-      raw-by n l (no h) = new-raw t t′ N made P (build-thirds (fuel qs) N qs) n h l
+      raw-by n l (no h) = new-raw t t′ N made P (build-thirds (length qs + entries qs) N qs) n h l
 
       boxed : boxes (fronts outs₀) ≡ outs₀
-      boxed = boxes-fronts outs₀ (build-ones (fuel qs) N qs (omega arith)) nz-outs
+      boxed = boxes-fronts outs₀ (build-ones N qs) nz-outs
 
       zero-kid : (n : ℕ) → Kid F n 0
       zero-kid n = B .first
 
       stands : Stands (Kid F) N (built st)
-      stands = build-below (Kid F) (λ n w h. kid-up 0 F n (suc n) w (omega arith) h) zero-kid (λ n. kid-bit 0 F sum n) (λ n. kid-bit 0 F carry n) (fuel qs) N qs kid-qs
+      stands = build-below (Kid F) (λ n w h. kid-up 0 F n (suc n) w (omega arith) h) zero-kid (λ n. kid-bit 0 F sum n) (λ n. kid-bit 0 F carry n) (length qs + entries qs) N qs kid-qs
 
       kid-outs : Alls (Kid F N′) outs₀
       kid-outs = stands .outs
@@ -365,10 +401,10 @@ module _ (F : ℕ) where
 
       cover′ : (M : ℕ → Type 0) → ((n : ℕ) → n < N′ → M (sumWord n) → M ((nodeAt t′ n) .a) × M ((nodeAt t′ n) .b) × M ((nodeAt t′ n) .c)) → Alls M outs₀ → (n : ℕ) → n < N′ → Dec (n < N) → M (sumWord n) × M (carryWord n)
       cover′ M h o n l (yes p) =
-          let c = build-cover M (fuel qs) N qs (downs-list M t′ N made (P .node-new) (λ m a b. h m b)) o in
+          let c = build-cover M (length qs + entries qs) N qs (downs-list M t′ N made (P .node-new) (λ m a b. h m b)) o in
           I .cover M (λ m b x. rw (P .node-old m b) at (h m (omega arith) x)) (join-out M (spread k (st .pend)) (boxes (st .outs)) (c .0)) n p
       cover′ M h o n l (no p) =
-          let c = build-cover M (fuel qs) N qs (downs-list M t′ N made (P .node-new) (λ m a b. h m b)) o in
+          let c = build-cover M (length qs + entries qs) N qs (downs-list M t′ N made (P .node-new) (λ m a b. h m b)) o in
           let e : N + (n - N) ≡ n = omega arith in
           rw e at (bits-at M N made (c .1) (n - N) (omega arith))
 

@@ -9,9 +9,9 @@ use lib.Dec.{eqb}
 use borrow.Author.Tests.{eq-eqb, ne-eqb}
 use Rattle.model.specs.Signs.{Bit, sum, carry, Dir, iff, onlyif}
 use Rattle.model.specs.Nodes.{sumWord, carryWord, Node, nodeAt}
-use Rattle.meaning.proofs.Rows.{third, gateB, gate-adds}
+use Rattle.meaning.specs.Value.{third, Ord, nodeIn, nodeOut}
+use Rattle.meaning.proofs.Rows.{gateB, gate-adds}
 use Rattle.meaning.proofs.Emitting.{bitW, bit-code, KidBy, Kid, Canon}
-use Rattle.meaning.proofs.Sums.{Ord, nodeIn, nodeOut}
 
 unfoldable pub gateV : Bit → Node → (ℕ → Bool) → Bool
 gateV β nd v = gateB β (v (nd .a)) (v (nd .b)) (third (nd .kind) (v (nd .c)))

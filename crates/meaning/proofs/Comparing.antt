@@ -12,7 +12,8 @@ use borrow.Author.Tests.{eqb-false}
 use Rattle.model.specs.Logic.{Lit, neg, litTrue, oneTrue, clausesTrue}
 use Rattle.model.specs.Signs.{iff, onlyif}
 use Rattle.model.specs.Compare.{Outs, ahead, above, higher, begins, clauseOf, compareRows, comparator}
-use Rattle.meaning.specs.Worth.{b2n, valO, outVal}
+use Rattle.meaning.specs.Value.{b2n}
+use Rattle.meaning.specs.Worth.{valO, outVal}
 use Rattle.meaning.proofs.Tests.{imp, imp-e, imp-i, T-of}
 use Rattle.meaning.proofs.Implications.{neg-true, one-append, clauses-append}
 

@@ -17,9 +17,10 @@ use Rattle.model.specs.Emit.{Em, gateAt, takeVar, mark, write, children, node, 
 use Rattle.model.specs.Bounds.{plus1, follow, Clauses}
 use Rattle.meaning.proofs.Implications.{clauses-append}
 use Rattle.meaning.proofs.Tests.{and-l, and-r, and-i, T-of}
-use Rattle.meaning.proofs.Rows.{third, gateB, rowsHold, rowsAt-is, gate-complete, rows-third}
+use Rattle.meaning.specs.Value.{third, ForFull}
+use Rattle.meaning.proofs.Rows.{gateB, rowsHold, rowsAt-is, gate-complete, rows-third}
 use Rattle.meaning.proofs.Access.{Raw, raw-setVar, raw-setMark, node-setVar, node-setMark, var-setMark, marked-setVar, var-setVar, var-kept, var-cases, marked-same, marked-cases, length-setVar, length-setMark}
-use Rattle.meaning.proofs.Ranges.{Lw, NZs, NZs-append, NZs-mono, ForFull, gate-nz}
+use Rattle.meaning.proofs.Ranges.{Lw, NZs, NZs-append, NZs-mono, gate-nz}
 
 abbrev pub Entails : List (List Lit) → List (List Lit) → Type 0
 Entails cs ds = (α : ℕ → Bool) → T (clausesTrue α cs) → T (clausesTrue α ds)

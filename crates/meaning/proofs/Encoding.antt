@@ -24,9 +24,10 @@ use Rattle.model.specs.Calls.{built, tooWide, noNodes, Replied, leaving, known,
 use Rattle.model.proofs.Buffer.{sets-before, sets-stand}
 use Rattle.model.proofs.Emission.{reserve-map, reserve-leaves, reserve-rises, flat-append}
 use Rattle.meaning.specs.Truth.{areLits, areClauses}
-use Rattle.meaning.specs.Worth.{weigh, weights}
+use Rattle.meaning.specs.Value.{weigh}
+use Rattle.meaning.proofs.Shape.{All}
+use Rattle.meaning.specs.Worth.{weights}
 use Rattle.meaning.specs.States.{Rec, St, recAt, recsOf, stOf, emitSt, encodeSt, bounds, reserveSt}
-use Rattle.meaning.proofs.Forms.{All}
 use Rattle.meaning.proofs.Ranges.{Lw, NZc, NZs}
 use Rattle.meaning.proofs.Emitting.{bitW, lit-bitW, known-bit}
 use Rattle.meaning.proofs.Invariant.{leaf, AllR, RecOK, Inv}

@@ -11,11 +11,10 @@ use Rattle.model.specs.Signs.{Bit, sum, carry, Dir, iff, onlyif}
 use Rattle.model.specs.Nodes.{sumWord, carryWord, nodeAt, marked, litAt}
 use Rattle.model.specs.Buckets.{Pending, boxes}
 use Rattle.model.specs.Compare.{outLits}
-use Rattle.meaning.specs.Worth.{weigh, value}
+use Rattle.meaning.specs.Value.{weigh, value, Ord, nodeIn, nodeOut}
+use Rattle.meaning.proofs.Shape.{Alls}
 use Rattle.meaning.specs.States.{Rec, St, comp, mk}
 use Rattle.meaning.proofs.Rows.{gate-sound, inOrder}
-use Rattle.meaning.proofs.Sums.{Ord, nodeIn, nodeOut}
-use Rattle.meaning.proofs.Forms.{Alls}
 use Rattle.meaning.proofs.Emitting.{bit-code, Entails, Mk, OK, OutW, Base, Good, rows-are}
 use Rattle.meaning.proofs.Canonical.{canonV}
 

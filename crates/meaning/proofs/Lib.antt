@@ -7,10 +7,10 @@ pub mod Tests
 pub mod Access
 pub mod Tables
 pub mod Rows
-pub mod Sums
+pub mod Ledger
 pub mod Comparing
 pub mod Ranges
-pub mod Forms
+pub mod Shape
 pub mod Emitting
 pub mod Canonical
 pub mod Invariant

@@ -11,12 +11,9 @@ use lib.ListN.{length}
 use Rattle.model.specs.Logic.{Lit, pL, nL, neg, variable}
 use Rattle.model.specs.Signs.{Kind, half, full, Bit, sum, carry, Dir, iff, onlyif, Row, signs, signed, rowAt, rowsAt}
 use Rattle.model.specs.Compare.{Outs, ahead, above, higher, comparator}
+use Rattle.meaning.specs.Value.{ForFull}
 use Rattle.meaning.specs.States.{comp}
 use Rattle.meaning.proofs.Comparing.{ownIf, ifClauses, ownOnly, onlyAux}
-
-abbrev pub ForFull : Kind → Type 0 → Type 0
-ForFull half X = Unit {0}
-ForFull full X = X
 
 -- a literal of a variable from 1 to below x
 abbrev pub Lw : ℕ → Lit → Type 0

@@ -9,6 +9,7 @@ use native.Mathlib.Omega.{arith}
 use borrow.Author.Tests.{eqb-true, ltb-false}
 use lib.Dec.{eqb}
 use lib.ListN.{length, replicate, length-replicate}
+use Rattle.meaning.proofs.Shape.{present-outputs}
 use Rattle.model.specs.Limits.{greatest, mostTerms, mostTotal, mostOutputs, mostNodes}
 use Rattle.model.specs.Signs.{Bit}
 use Rattle.model.specs.Nodes.{Node, putNodes, var}
@@ -17,55 +18,24 @@ use Rattle.model.specs.Machine.{Machine, pendingOf, pending, weighed, totalOf}
 use Rattle.model.specs.Bounds.{Clauses}
 use Rattle.model.specs.Calls.{built, tooWide, noNodes}
 use Rattle.model.proofs.Buffer.{sets-stand}
-use Rattle.meaning.specs.Worth.{weigh, weights}
+use Rattle.meaning.specs.Value.{weigh}
+use Rattle.meaning.specs.Worth.{weights}
 use Rattle.meaning.specs.States.{stOf, buildSt}
 use Rattle.meaning.proofs.Tables.{puts}
-use Rattle.meaning.proofs.Sums.{Fit, weigh-append}
 use Rattle.meaning.proofs.Invariant.{leaf, Inv}
 use Rattle.meaning.proofs.Answers.{sumAll}
-use Rattle.meaning.proofs.Building.{buildSt-inv}
+use Rattle.meaning.proofs.Building.{buildSt-inv, weigh-append}
 use Rattle.meaning.proofs.Adding.{weighed-is, pending-length}
 use Rattle.meaning.proofs.Whole.{Whole}
-
--- the weights fit the buckets
-half-up : (k w : ℕ) → w / 2 < 2 ^ k → w < 2 ^ suc k
-half-up k w h = omega arith
-
-half-down : (k w : ℕ) → w < 2 ^ suc k → w / 2 < 2 ^ k
-half-down k w h = omega arith
-
-bits-fit : (f w : ℕ) → w < 2 ^ f → w < 2 ^ bits f w
-bits-fit zero w h = h
-bits-fit (suc f) w h = go (eqb w 0) refl (bits-fit f (w / 2) (half-down f w h))
-  where
-    go : (q : Bool) → eqb w 0 ≡ q → w / 2 < 2 ^ bits f (w / 2) → w < 2 ^ cond q 0 (suc (bits f (w / 2)))
-    go true e ih = let z : w ≡ 0 = eqb-true w 0 e in omega arith
-    go false e ih = half-up (bits f (w / 2)) w ih
-
-fit-most : (m k : ℕ) (ts : List Pending) → heaviest ts ≤ m → m < 2 ^ k → Fit k ts
-fit-most m k [] h l = tt
-fit-most m k (t ∷ ts) h l = (omega arith, fit-most m k ts (omega arith) l)
 
 heaviest-le : (ts : List Pending) → heaviest ts ≤ weights ts
 heaviest-le [] = omega arith
 heaviest-le (t ∷ ts) = omega (arith, heaviest-le ts)
 
-width-fit : (ts : List Pending) (os : List ℕ) → weights ts ≤ mostTotal → Fit (width ts os) ts
-unfolding width
-width-fit ts os h =
-    let k : ℕ = bits 32 (heaviest ts) in
-    let l : heaviest ts < 2 ^ bits 32 (heaviest ts) = bits-fit 32 (heaviest ts) (omega (arith, heaviest-le ts)) in
-    let r : 2 ^ bits 32 (heaviest ts) ≤ 2 ^ max (bits 32 (heaviest ts) + 1) (length os) = pow-le-pow-right (omega arith) (omega arith) in
-    fit-most (heaviest ts) (max (bits 32 (heaviest ts) + 1) (length os)) ts (omega arith) (omega arith)
-
 -- outputs in their 48 places
 fronts-length : (qs : List (List ℕ)) → length (fronts qs) ≡ length qs
 fronts-length [] = refl
 fronts-length (q ∷ qs) = ap suc (fronts-length qs)
-
-present-back : (ws : List ℕ) → length ws ≤ mostOutputs → present (outputsOf ws) ≡ ws
-unfolding present outputsOf
-present-back ws h = sets-stand ws (replicate mostOutputs 0) 0 (length ws) refl (omega (arith, length-replicate {A = ℕ} mostOutputs 0))
 
 weights-append : (ts us : List Pending) → weights (ts ++ us) ≡ weights ts + weights us
 weights-append [] us = omega arith
@@ -134,8 +104,8 @@ module _ (F : ℕ) (m : Machine) (done : List Pending) (cls : Clauses) (W : Whol
       → Inv F (stOf (after (record { table = putNodes (m .nodes) (m .party .nodes) (made .made); outputs = outputsOf (fronts (made .outs)); nodes = m .party .nodes + length (made .made) })) (done ++ ps) cls)
   unfolding buildSt made ps pending pendingOf
   after-inv h r =
-      rw (present-back (fronts (made .outs)) (omega (arith, fronts-length (made .outs))))
-      (buildSt-inv F (stOf m done cls) (W .inv) (width-fit ps (present (m .party .outputs)) (omega (arith, W .limit, totals))) r)
+      rw (present-outputs (fronts (made .outs)) (omega (arith, fronts-length (made .outs))))
+      (buildSt-inv F (stOf m done cls) (W .inv) (omega (arith, W .limit, totals, heaviest-le ps)) r)
 
   after-ready : length (made .outs) ≤ mostOutputs → 8 * (m .party .nodes + length (made .made)) ≤ length (m .nodes) → m .party .nodes + length (made .made) ≤ mostNodes
       → Ready F m (after (record { table = putNodes (m .nodes) (m .party .nodes) (made .made); outputs = outputsOf (fronts (made .outs)); nodes = m .party .nodes + length (made .made) })) done cls
@@ -158,8 +128,8 @@ module _ (F : ℕ) (m : Machine) (done : List Pending) (cls : Clauses) (W : Whol
         left = W .tidy .left;
         drawn = W .tidy .drawn;
         heavy = tt;
-        shape = ap outputsOf (sym (present-back (fronts (made .outs)) few));
-        wide = rw (present-back (fronts (made .outs)) few) few;
+        shape = ap outputsOf (sym (present-outputs (fronts (made .outs)) few));
+        wide = rw (present-outputs (fronts (made .outs)) few) few;
         nodes = k;
         bounds = omega arith;
         clauses = W .tidy .clauses;

@@ -2,11 +2,11 @@
 use mathlib.Core.Path.{_≡_, refl}
 use mathlib.Core.Bool.{Bool, true, false, not, _&&_, _||_}
 use mathlib.Core.List.{List, [], _∷_, map}
-use Prim.Native.Nat.{ℕ, zero, suc, _+_, _*_}
+use Prim.Native.Nat.{ℕ, zero, suc}
 use lib.Dec.{T, leb, eqb, eqb→eq}
 use Rattle.model.specs.Logic.{Lit, litTrue, oneTrue, clausesTrue}
 use Rattle.model.specs.Signs.{Kind, half, full, Bit, sum, carry, Dir, iff, onlyif, Row, signs, signed, rowAt, rowsAt}
-use Rattle.meaning.specs.Worth.{b2n}
+use Rattle.meaning.specs.Value.{third, in3, out2}
 use Rattle.meaning.proofs.Implications.{neg-true}
 use Rattle.meaning.proofs.Tests.{and-i, imp, imp-e, all, all-at, all5, all5-at}
 
@@ -25,11 +25,6 @@ abbrev pub rowsB : List Row → List Bool → Bool
 rowsB [] xs = true
 rowsB (r ∷ rs) xs = rowB r xs && rowsB rs xs
 
--- a half node has no c: its third place holds false
-abbrev pub third : Kind → Bool → Bool
-third half c = false
-third full c = c
-
 abbrev pub parity : Bool → Bool → Bool → Bool
 parity true true c = c
 parity true false c = not c
@@ -43,12 +38,6 @@ majority false b c = b && c
 abbrev pub gateB : Bit → Bool → Bool → Bool → Bool
 gateB sum a b c = parity a b c
 gateB carry a b c = majority a b c
-
-abbrev pub in3 : Bool → Bool → Bool → ℕ
-in3 a b c = b2n a + b2n b + b2n c
-
-abbrev pub out2 : Bool → Bool → ℕ
-out2 s k = b2n s + 2 * b2n k
 
 abbrev pub rowsHold : Kind → Bit → Dir → Bool → Bool → Bool → Bool → Bool
 rowsHold κ β δ a b c o = rowsB (signs κ β δ) (a ∷ b ∷ c ∷ o ∷ [])

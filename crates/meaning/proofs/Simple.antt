@@ -19,9 +19,9 @@ use Rattle.model.specs.Emit.{Em, takeVar, children, reserveNode, reserve, reser
 use Rattle.model.specs.Machine.{addTo, asPending, addAll}
 use Rattle.model.specs.Bounds.{plus1, Clauses}
 use Rattle.model.specs.Calls.{clearNodes}
-use Rattle.meaning.specs.Worth.{b2n, weigh, value}
+use Rattle.meaning.specs.Value.{b2n, weigh, value}
+use Rattle.meaning.proofs.Ledger.{Ord-refl}
 use Rattle.meaning.specs.States.{Rec, St, start, reserveSt, addSt, clearRecs, overSt, mk}
-use Rattle.meaning.proofs.Sums.{Ord-refl}
 use Rattle.meaning.proofs.Tables.{no-mark}
 use Rattle.meaning.proofs.Access.{Raw, raw-set, node-set}
 use Rattle.meaning.proofs.Emitting.{Base, Known, KnownBy, Res, Res-refl, Res-trans, Took, take-ok, same-word}

@@ -18,8 +18,8 @@ use Rattle.model.specs.Bounds.{Clauses}
 use Rattle.model.specs.Damage.{badPending, anyBad, badOutput, anyBadOutput, partyDamaged, badChild, badThird, badNode, anyBadNode, nodesDamaged, anyBadBound, boundsDamaged, bufferDamaged, sourceDamaged, tablesDamaged, allDamaged}
 use Rattle.model.proofs.Literals.{range}
 use Rattle.meaning.specs.States.{stOf}
-use Rattle.meaning.proofs.Forms.{Alls}
-use Rattle.meaning.proofs.Ranges.{ForFull}
+use Rattle.meaning.proofs.Shape.{Alls}
+use Rattle.meaning.specs.Value.{ForFull}
 use Rattle.meaning.proofs.Access.{Raw}
 use Rattle.meaning.proofs.Emitting.{KidBy, Kid, LfBy, Lf, OutW, Base}
 use Rattle.meaning.proofs.Invariant.{Leaf, Leaves}

@@ -4,5 +4,6 @@ pub mod Truth
 pub mod Histories
 pub mod Corollaries
 pub mod Starred
+pub mod Value
 pub mod Worth
 pub mod States

@@ -1,17 +1,19 @@
--- The builder's shape: children stand below their node, each bucket is left with at most one entry, and whatever holds of the outputs and goes
--- from a node's bits to its children holds of every entry and of every node. Assumes nothing.
+-- What a build leaves: each bucket has at most one entry, children stand below their node, whatever holds of all entries and of all nodes'
+-- bits holds of what is left, and whatever goes from a node's sum to its children and holds of what is left holds of every entry and
+-- every node's bits. Assumes nothing.
 use mathlib.Core.Path.{_≡_, refl}
 use mathlib.Core.Logic.{_≢_}
 use mathlib.Core.List.{List, [], _∷_, _++_}
 use Prim.Native.Nat.{ℕ, zero, suc, _+_, _-_, _≤_}
-use native.Mathlib.Nat.{add-zero, add-suc, suc-add}
+use native.Mathlib.Nat.{zero-add, add-zero, add-suc, suc-add}
 use native.Mathlib.Omega.{arith}
-use lib.ListN.{length, length-append}
-use Rattle.model.specs.Signs.{half}
-use Rattle.model.specs.Nodes.{sumWord, carryWord, fullNode, Node}
-use Rattle.model.specs.Buckets.{Drained, Made, drain, push, build, front, fronts, box, boxes, entries}
-use Rattle.meaning.proofs.Ranges.{ForFull}
+use lib.ListN.{length, length-append, drop, replicate}
+use lib.Seq.{sets-eq, take-append-seam}
+use Rattle.model.specs.Nodes.{Node, sumWord, carryWord}
+use Rattle.model.specs.Buckets.{Drained, drain, Made, push, build, entries, buildAll, front, fronts, box, boxes, present, outputsOf}
+use Rattle.meaning.specs.Value.{ForFull}
 
+-- of every entry of a bucket, of every entry of all buckets
 abbrev pub All : (ℕ → Type 0) → List ℕ → Type 0
 All P [] = Unit {0}
 All P (w ∷ q) = P w × All P q
@@ -24,7 +26,7 @@ pub All-append : (P : ℕ → Type 0) (q r : List ℕ) → All P q → All P r �
 All-append P [] r h k = k
 All-append P (w ∷ q) r h k = (h .0, All-append P q r (h .1) k)
 
-pub All-left : (P : ℕ → Type 0) (q r : List ℕ) → All P (q ++ r) → All P q
+All-left : (P : ℕ → Type 0) (q r : List ℕ) → All P (q ++ r) → All P q
 All-left P [] r h = tt
 All-left P (w ∷ q) r h = (h .0, All-left P q r (h .1))
 
@@ -32,7 +34,7 @@ pub All-right : (P : ℕ → Type 0) (q r : List ℕ) → All P (q ++ r) → All
 All-right P [] r h = h
 All-right P (w ∷ q) r h = All-right P q r (h .1)
 
-pub All-map : (P Q : ℕ → Type 0) → ((w : ℕ) → P w → Q w) → (q : List ℕ) → All P q → All Q q
+All-map : (P Q : ℕ → Type 0) → ((w : ℕ) → P w → Q w) → (q : List ℕ) → All P q → All Q q
 All-map P Q f [] h = tt
 All-map P Q f (w ∷ q) h = (f w (h .0), All-map P Q f q (h .1))
 
@@ -50,30 +52,27 @@ push-out P [] [] h = (tt, tt)
 push-out P (c ∷ cs) [] h = (h .0, tt)
 push-out P cs (q ∷ qs) h = (All-right P q cs (h .0), (All-left P q cs (h .0), h .1))
 
--- whatever goes down
+-- from what is left down to every entry
 module _ (M : ℕ → Type 0) where
-  abbrev pub Down : ℕ → Node → Type 0
-  Down n nd = (M (sumWord n) → M (nd .a) × M (nd .b) × M (nd .c))
-
   abbrev pub Downs : ℕ → List Node → Type 0
   Downs n [] = Unit {0}
-  Downs n (nd ∷ nds) = Down n nd × Downs (suc n) nds
+  Downs n (nd ∷ nds) = (M (sumWord n) → M (nd .a) × M (nd .b) × M (nd .c)) × Downs (suc n) nds
 
   abbrev pub Bits : ℕ → List Node → Type 0
   Bits n [] = Unit {0}
   Bits n (nd ∷ nds) = (M (sumWord n) × M (carryWord n)) × Bits (suc n) nds
 
-  pub Downs-append : (n : ℕ) (xs ys : List Node) → Downs n (xs ++ ys) → Downs n xs × Downs (n + length xs) ys
+  Downs-append : (n : ℕ) (xs ys : List Node) → Downs n (xs ++ ys) → Downs n xs × Downs (n + length xs) ys
   Downs-append n [] ys e = (tt, rw add-zero e)
   Downs-append n (x ∷ xs) ys e =
       let r = Downs-append (suc n) xs ys (e .1) in
       ((e .0, r .0), rw (add-suc n (length xs), ← suc-add n (length xs)) (r .1))
 
-  pub Bits-append : (n : ℕ) (xs ys : List Node) → Bits n xs → Bits (n + length xs) ys → Bits n (xs ++ ys)
+  Bits-append : (n : ℕ) (xs ys : List Node) → Bits n xs → Bits (n + length xs) ys → Bits n (xs ++ ys)
   Bits-append n [] ys h k = rw add-zero at k
   Bits-append n (x ∷ xs) ys h k = (h .0, Bits-append (suc n) xs ys (h .1) (rw (add-suc n (length xs), ← suc-add n (length xs)) at k))
 
-  drain-cover : (f n : ℕ) (q : List ℕ) → Downs n ((drain f n q) .made) → All M ((drain f n q) .rest) → All M ((drain f n q) .carries) → All M q × Bits n ((drain f n q) .made)
+  drain-cover : (f n : ℕ) (q : List ℕ) → Downs n (drain f n q .made) → All M (drain f n q .rest) → All M (drain f n q .carries) → All M q × Bits n (drain f n q .made)
   drain-cover zero n q d r c = (r, tt)
   drain-cover (suc f) n [] d r c = (tt, tt)
   drain-cover (suc f) n (a ∷ []) d r c = (r, tt)
@@ -82,11 +81,11 @@ module _ (M : ℕ → Type 0) where
       ((k .0, (k .1, tt)), ((r .0, c .0), tt))
   drain-cover (suc f) n (a ∷ (b ∷ (x ∷ q))) d r c =
       let ih = drain-cover f (suc n) (q ++ (sumWord n ∷ [])) (d .1) r (c .1) in
-      let s : M (sumWord n) = (All-right M q (sumWord n ∷ []) (ih .0)) .0 in
+      let s : M (sumWord n) = All-right M q (sumWord n ∷ []) (ih .0) .0 in
       let k = d .0 s in
       ((k .0, (k .1, (k .2, All-left M q (sumWord n ∷ []) (ih .0)))), ((s, c .0), ih .1))
 
-  pub build-cover : (f n : ℕ) (qs : List (List ℕ)) → Downs n ((build f n qs) .made) → Alls M ((build f n qs) .outs) → Alls M qs × Bits n ((build f n qs) .made)
+  pub build-cover : (f n : ℕ) (qs : List (List ℕ)) → Downs n (build f n qs .made) → Alls M (build f n qs .outs) → Alls M qs × Bits n (build f n qs .made)
   build-cover zero n qs d o = (o, tt)
   build-cover (suc f) n [] d o = (tt, tt)
   build-cover (suc f) n (q ∷ qs) d o =
@@ -98,7 +97,7 @@ module _ (M : ℕ → Type 0) where
       let k = drain-cover (length q) n q (ds .0) (o .0) (p .0) in
       ((k .0, p .1), Bits-append n (r .made) (t .made) (k .1) (ih .1))
 
--- children below: P n w says that w may be a child of node n
+-- children below their node: P n w says that w may be a child of node n
 abbrev pub Below : (ℕ → ℕ → Type 0) → ℕ → List Node → Type 0
 Below P n [] = Unit {0}
 Below P n (nd ∷ nds) = (P n (nd .a) × P n (nd .b) × P n (nd .c)) × Below P (suc n) nds
@@ -132,7 +131,7 @@ module _ (P : ℕ → ℕ → Type 0) (up : (n w : ℕ) → P n w → P (suc n) 
   drain-below (suc f) n (a ∷ (b ∷ (c ∷ q))) h =
       let g : All (P (suc n)) q = All-map (P n) (P (suc n)) (up n) q (h .1 .1 .1) in
       let ih = drain-below f (suc n) (q ++ (sumWord n ∷ [])) (All-append (P (suc n)) q (sumWord n ∷ []) g (s n, tt)) in
-      let m = (drain f (suc n) (q ++ (sumWord n ∷ []))) .made in
+      let m = drain f (suc n) (q ++ (sumWord n ∷ [])) .made in
       record {
         below = ((h .0, h .1 .0, h .1 .1 .0), ih .below);
         rest = rw (add-suc n (length m), ← suc-add n (length m)) (ih .rest);
@@ -155,8 +154,51 @@ module _ (P : ℕ → ℕ → Type 0) (up : (n w : ℕ) → P n w → P (suc n) 
         outs = rw e (All-map (P n′) (P (n′ + length (t .made))) (λ w p. ups n′ (length (t .made)) w p) (r .rest) (d .rest), ih .outs);
       }
 
--- at most one entry is left in each bucket
-drain-one : (f n : ℕ) (q : List ℕ) → length q ≤ f → length ((drain f n q) .rest) ≤ 1
+-- what holds of every entry and of every node's bits
+module _ (Q : ℕ → Type 0) (sums : (n : ℕ) → Q (sumWord n)) (carries : (n : ℕ) → Q (carryWord n)) where
+  drain-keep : (f n : ℕ) (q : List ℕ) → All Q q → All Q (drain f n q .rest) × All Q (drain f n q .carries)
+  drain-keep zero n q h = (h, tt)
+  drain-keep (suc f) n [] h = (tt, tt)
+  drain-keep (suc f) n (a ∷ []) h = (h, tt)
+  drain-keep (suc f) n (a ∷ (b ∷ [])) h = ((sums n, tt), (carries n, tt))
+  drain-keep (suc f) n (a ∷ (b ∷ (c ∷ q))) h =
+      let r = drain-keep f (suc n) (q ++ (sumWord n ∷ [])) (All-append Q q (sumWord n ∷ []) (h .1 .1 .1) (sums n, tt)) in
+      (r .0, (carries n, r .1))
+
+  abbrev pub Kids : List Node → Type 0
+  Kids [] = Unit {0}
+  Kids (nd ∷ nds) = (Q (nd .a) × Q (nd .b) × ForFull (nd .kind) (Q (nd .c))) × Kids nds
+
+  Kids-append : (xs ys : List Node) → Kids xs → Kids ys → Kids (xs ++ ys)
+  Kids-append [] ys h k = k
+  Kids-append (x ∷ xs) ys h k = (h .0, Kids-append xs ys (h .1) k)
+
+  drain-kids : (f n : ℕ) (q : List ℕ) → All Q q → Kids (drain f n q .made)
+  drain-kids zero n q h = tt
+  drain-kids (suc f) n [] h = tt
+  drain-kids (suc f) n (a ∷ []) h = tt
+  drain-kids (suc f) n (a ∷ (b ∷ [])) h = ((h .0, h .1 .0, tt), tt)
+  drain-kids (suc f) n (a ∷ (b ∷ (c ∷ q))) h =
+      ((h .0, h .1 .0, h .1 .1 .0), drain-kids f (suc n) (q ++ (sumWord n ∷ [])) (All-append Q q (sumWord n ∷ []) (h .1 .1 .1) (sums n, tt)))
+
+  pub build-kids : (f n : ℕ) (qs : List (List ℕ)) → Alls Q qs → Kids (build f n qs .made)
+  build-kids zero n qs h = tt
+  build-kids (suc f) n [] h = tt
+  build-kids (suc f) n (q ∷ qs) h =
+      let r = drain (length q) n q in
+      let k = drain-keep (length q) n q (h .0) in
+      Kids-append (r .made) _ (drain-kids (length q) n q (h .0)) (build-kids f (n + length (r .made)) (push (r .carries) qs) (push-in Q (r .carries) qs (k .1) (h .1)))
+
+  pub build-keep : (f n : ℕ) (qs : List (List ℕ)) → Alls Q qs → Alls Q (build f n qs .outs)
+  build-keep zero n qs h = h
+  build-keep (suc f) n [] h = tt
+  build-keep (suc f) n (q ∷ qs) h =
+      let r = drain (length q) n q in
+      let k = drain-keep (length q) n q (h .0) in
+      (k .0, build-keep f (n + length (r .made)) (push (r .carries) qs) (push-in Q (r .carries) qs (k .1) (h .1)))
+
+-- "What remains, at most one each, is the output."
+drain-one : (f n : ℕ) (q : List ℕ) → length q ≤ f → length (drain f n q .rest) ≤ 1
 drain-one zero n [] h = omega arith
 drain-one zero n (a ∷ q) h = absurd (omega arith)
 drain-one (suc f) n [] h = omega arith
@@ -164,36 +206,37 @@ drain-one (suc f) n (a ∷ []) h = omega arith
 drain-one (suc f) n (a ∷ (b ∷ [])) h = omega arith
 drain-one (suc f) n (a ∷ (b ∷ (c ∷ q))) h = drain-one f (suc n) (q ++ (sumWord n ∷ [])) (omega (arith, length-append q (sumWord n ∷ [])))
 
--- fewer carries than entries
-drain-less : (f n : ℕ) (q : List ℕ) → length ((drain f n q) .carries) ≤ length q - 1
+drain-less : (f n : ℕ) (q : List ℕ) → length (drain f n q .carries) ≤ length q - 1
 drain-less zero n q = omega arith
 drain-less (suc f) n [] = omega arith
 drain-less (suc f) n (a ∷ []) = omega arith
 drain-less (suc f) n (a ∷ (b ∷ [])) = omega arith
 drain-less (suc f) n (a ∷ (b ∷ (c ∷ q))) = omega (arith, drain-less f (suc n) (q ++ (sumWord n ∷ [])), length-append q (sumWord n ∷ []))
 
-abbrev pub fuel : List (List ℕ) → ℕ
-fuel qs = length qs + entries qs
-
-fuel-push : (cs : List ℕ) (qs : List (List ℕ)) (f l : ℕ) → length cs ≤ l - 1 → suc (length qs) + (l + entries qs) ≤ suc f → fuel (push cs qs) ≤ f
-fuel-push [] [] f l h g = omega arith
-fuel-push (c ∷ cs) [] f l h g = omega arith
-fuel-push cs (q ∷ qs) f l h g = omega (arith, length-append q cs)
+steps-push : (cs : List ℕ) (qs : List (List ℕ)) (f l : ℕ) → length cs ≤ l - 1 → suc (length qs) + (l + entries qs) ≤ suc f → length (push cs qs) + entries (push cs qs) ≤ f
+steps-push [] [] f l h g = omega arith
+steps-push (c ∷ cs) [] f l h g = omega arith
+steps-push cs (q ∷ qs) f l h g = omega (arith, length-append q cs)
 
 abbrev pub Ones : List (List ℕ) → Type 0
 Ones [] = Unit {0}
 Ones (q ∷ qs) = (length q ≤ 1) × Ones qs
 
-pub build-ones : (f n : ℕ) (qs : List (List ℕ)) → fuel qs ≤ f → Ones ((build f n qs) .outs)
-build-ones zero n [] h = tt
-build-ones zero n (q ∷ qs) h = absurd (omega arith)
-build-ones (suc f) n [] h = tt
-build-ones (suc f) n (q ∷ qs) h =
+ones : (f n : ℕ) (qs : List (List ℕ)) → length qs + entries qs ≤ f → Ones (build f n qs .outs)
+ones zero n [] h = tt
+ones zero n (q ∷ qs) h = absurd (omega arith)
+ones (suc f) n [] h = tt
+ones (suc f) n (q ∷ qs) h =
     let r = drain (length q) n q in (
       drain-one (length q) n q (omega arith),
-      build-ones f (n + length (r .made)) (push (r .carries) qs) (fuel-push (r .carries) qs f (length q) (drain-less (length q) n q) h),
+      ones f (n + length (r .made)) (push (r .carries) qs) (steps-push (r .carries) qs f (length q) (drain-less (length q) n q) h),
     )
 
+pub build-ones : (n : ℕ) (qs : List (List ℕ)) → Ones (buildAll n qs .outs)
+unfolding buildAll
+build-ones n qs = ones (length qs + entries qs) n qs (omega arith)
+
+-- so the outputs' words are what is left, where no entry is the absent word
 box-front : (q : List ℕ) → length q ≤ 1 → All (λ w. w ≢ 0) q → box (front q) ≡ q
 box-front [] h k = refl
 box-front (zero ∷ []) h k = absurd (k .0 refl)
@@ -204,74 +247,8 @@ pub boxes-fronts : (qs : List (List ℕ)) → Ones qs → Alls (λ w. w ≢ 0) q
 boxes-fronts [] h k = refl
 boxes-fronts (q ∷ qs) h k = rw (box-front q (h .0) (k .0), boxes-fronts qs (h .1) (k .1))
 
--- what holds of every entry and of every node's bits holds of what is left
-module _ (Q : ℕ → Type 0) (qs-sum : (n : ℕ) → Q (sumWord n)) (qs-car : (n : ℕ) → Q (carryWord n)) where
-  drain-keep : (f n : ℕ) (q : List ℕ) → All Q q → All Q ((drain f n q) .rest) × All Q ((drain f n q) .carries)
-  drain-keep zero n q h = (h, tt)
-  drain-keep (suc f) n [] h = (tt, tt)
-  drain-keep (suc f) n (a ∷ []) h = (h, tt)
-  drain-keep (suc f) n (a ∷ (b ∷ [])) h = ((qs-sum n, tt), (qs-car n, tt))
-  drain-keep (suc f) n (a ∷ (b ∷ (c ∷ q))) h =
-      let r = drain-keep f (suc n) (q ++ (sumWord n ∷ [])) (All-append Q q (sumWord n ∷ []) (h .1 .1 .1) (qs-sum n, tt)) in
-      (r .0, (qs-car n, r .1))
-
-  abbrev pub Kids : List Node → Type 0
-  Kids [] = Unit {0}
-  Kids (nd ∷ nds) = (Q (nd .a) × Q (nd .b) × ForFull (nd .kind) (Q (nd .c))) × Kids nds
-
-  Kids-append : (xs ys : List Node) → Kids xs → Kids ys → Kids (xs ++ ys)
-  Kids-append [] ys h k = k
-  Kids-append (x ∷ xs) ys h k = (h .0, Kids-append xs ys (h .1) k)
-
-  drain-kids : (f n : ℕ) (q : List ℕ) → All Q q → Kids ((drain f n q) .made)
-  drain-kids zero n q h = tt
-  drain-kids (suc f) n [] h = tt
-  drain-kids (suc f) n (a ∷ []) h = tt
-  drain-kids (suc f) n (a ∷ (b ∷ [])) h = ((h .0, h .1 .0, tt), tt)
-  drain-kids (suc f) n (a ∷ (b ∷ (c ∷ q))) h =
-      ((h .0, h .1 .0, h .1 .1 .0), drain-kids f (suc n) (q ++ (sumWord n ∷ [])) (All-append Q q (sumWord n ∷ []) (h .1 .1 .1) (qs-sum n, tt)))
-
-  pub build-kids : (f n : ℕ) (qs : List (List ℕ)) → Alls Q qs → Kids ((build f n qs) .made)
-  build-kids zero n qs h = tt
-  build-kids (suc f) n [] h = tt
-  build-kids (suc f) n (q ∷ qs) h =
-      let r = drain (length q) n q in
-      let k = drain-keep (length q) n q (h .0) in
-      Kids-append (r .made) _ (drain-kids (length q) n q (h .0)) (build-kids f (n + length (r .made)) (push (r .carries) qs) (push-in Q (r .carries) qs (k .1) (h .1)))
-
-  pub build-keep : (f n : ℕ) (qs : List (List ℕ)) → Alls Q qs → Alls Q ((build f n qs) .outs)
-  build-keep zero n qs h = h
-  build-keep (suc f) n [] h = tt
-  build-keep (suc f) n (q ∷ qs) h =
-      let r = drain (length q) n q in
-      let k = drain-keep (length q) n q (h .0) in
-      (k .0, build-keep f (n + length (r .made)) (push (r .carries) qs) (push-in Q (r .carries) qs (k .1) (h .1)))
-
--- a half node has no third child
-abbrev pub NoThird : Node → Type 0
-NoThird nd = nd .kind ≡ half → nd .c ≡ 0
-
-abbrev pub NoThirds : List Node → Type 0
-NoThirds [] = Unit {0}
-NoThirds (nd ∷ nds) = NoThird nd × NoThirds nds
-
-NoThirds-append : (xs ys : List Node) → NoThirds xs → NoThirds ys → NoThirds (xs ++ ys)
-NoThirds-append [] ys h k = k
-NoThirds-append (x ∷ xs) ys h k = (h .0, NoThirds-append xs ys (h .1) k)
-
-full-third : (a b c : ℕ) → NoThird (fullNode a b c)
-full-third a b c e = absurd (let z : _≡_ {A = ℕ} 0 1 = cc in omega arith)
-
-drain-thirds : (f n : ℕ) (q : List ℕ) → NoThirds ((drain f n q) .made)
-drain-thirds zero n q = tt
-drain-thirds (suc f) n [] = tt
-drain-thirds (suc f) n (a ∷ []) = tt
-drain-thirds (suc f) n (a ∷ (b ∷ [])) = (λ e. refl, tt)
-drain-thirds (suc f) n (a ∷ (b ∷ (c ∷ q))) = (full-third a b c, drain-thirds f (suc n) (q ++ (sumWord n ∷ [])))
-
-pub build-thirds : (f n : ℕ) (qs : List (List ℕ)) → NoThirds ((build f n qs) .made)
-build-thirds zero n qs = tt
-build-thirds (suc f) n [] = tt
-build-thirds (suc f) n (q ∷ qs) =
-    let r = drain (length q) n q in
-    NoThirds-append (r .made) _ (drain-thirds (length q) n q) (build-thirds f (n + length (r .made)) (push (r .carries) qs))
+-- and, where they fit into 48 places, are read there again
+pub present-outputs : (ws : List ℕ) → length ws ≤ 48 → present (outputsOf ws) ≡ ws
+unfolding present outputsOf
+present-outputs ws h =
+    rw (sets-eq ws (replicate 48 0) 0 (omega arith), zero-add (length ws)) (take-append-seam ws (drop (length ws) (replicate 48 0)))
