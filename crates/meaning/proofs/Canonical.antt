@@ -1,20 +1,21 @@
 -- The canonical values of the words: the leaves' values as given, and each node's bits by its gate, from node 0 up. Assumes nothing.
 use mathlib.Core.Path.{_≡_, refl, sym, ap, _∙_}
-use mathlib.Core.Bool.{Bool, cond}
+use mathlib.Core.Bool.{Bool, true, false, cond}
 use mathlib.Core.List.{List}
 use Prim.Native.Nat.{ℕ, zero, suc, _+_, _*_, _-_, _/_, _%_, _≤_, _<_}
 use native.Mathlib.Nat.{add-zero, add-suc}
 use native.Mathlib.Omega.{arith}
 use lib.Dec.{eqb}
 use borrow.Author.Tests.{eq-eqb, ne-eqb}
-use Rattle.model.specs.Signs.{Bit, sum, carry, Dir, iff, onlyif}
+use Rattle.model.specs.Signs.{Kind, half, full, Bit, sum, carry, Dir, iff, onlyif}
 use Rattle.model.specs.Nodes.{sumWord, carryWord, Node, nodeAt}
-use Rattle.meaning.specs.Value.{third, Ord, nodeIn, nodeOut}
-use Rattle.meaning.proofs.Rows.{gateB, gate-adds}
+use Rattle.meaning.specs.Gates.{count, inputs, bitOf, Kept}
+use Rattle.meaning.specs.Value.{b2n, third, in3, out2, Ord, nodeIn, nodeOut}
+use Rattle.meaning.proofs.Gates.{gate-keeps, gate-own}
 use Rattle.meaning.proofs.Emitting.{bitW, bit-code, KidBy, Kid, Canon}
 
 unfoldable pub gateV : Bit → Node → (ℕ → Bool) → Bool
-gateV β nd v = gateB β (v (nd .a)) (v (nd .b)) (third (nd .kind) (v (nd .c)))
+gateV β nd v = bitOf β (inputs (nd .kind) (v (nd .a)) (v (nd .b)) (v (nd .c)))
 
 unfoldable pub putV : ℕ → Node → (ℕ → Bool) → ℕ → Bool
 putV n nd v w = cond (eqb w (sumWord n)) (gateV sum nd v) (cond (eqb w (carryWord n)) (gateV carry nd v) (v w))
@@ -57,9 +58,21 @@ gate-ap : (β : Bit) (nd : Node) (v v′ : ℕ → Bool) → v (nd .a) ≡ v′ 
 unfolding gateV
 gate-ap β nd v v′ p q r = rw (p, q, r)
 
-gate-is : (β : Bit) (nd : Node) (v : ℕ → Bool) → gateV β nd v ≡ gateB β (v (nd .a)) (v (nd .b)) (third (nd .kind) (v (nd .c)))
+gate-is : (β : Bit) (nd : Node) (v : ℕ → Bool) → gateV β nd v ≡ bitOf β (inputs (nd .kind) (v (nd .a)) (v (nd .b)) (v (nd .c)))
 unfolding gateV
 gate-is β nd v = refl
+
+-- what the clauses keep is the order of what goes in and what comes out
+count-is : (x : Bool) → count x ≡ b2n x
+count-is true = refl
+count-is false = refl
+
+pub ord-of : (κ : Kind) (δ : Dir) (a b c s k : Bool) → Kept δ (inputs κ a b c) (2 * count k + count s) → Ord δ (in3 a b (third κ c)) (out2 s k)
+unfolding inputs
+ord-of half iff a b c s k h = omega (arith, count-is a, count-is b, count-is s, count-is k)
+ord-of half onlyif a b c s k h = omega (arith, count-is a, count-is b, count-is s, count-is k)
+ord-of full iff a b c s k h = omega (arith, count-is a, count-is b, count-is c, count-is s, count-is k)
+ord-of full onlyif a b c s k h = omega (arith, count-is a, count-is b, count-is c, count-is s, count-is k)
 
 module _ (N F : ℕ) where
   kid-off : (n w : ℕ) → Kid F n w → (w ≡ sumWord n → ⊥) × (w ≡ carryWord n → ⊥)
@@ -123,11 +136,9 @@ module _ (N F : ℕ) where
 
   -- canonical values keep the order both ways
   pub canon-each : (δ : Dir) (t : List ℕ) (v : ℕ → Bool) → Canon N F v t → (n : ℕ) → n < N → Ord δ (nodeIn v (nodeAt t n)) (nodeOut v n)
-  canon-each δ t v C n l = go δ
-    where
-      e : nodeOut v n ≡ nodeIn v (nodeAt t n)
-      e = rw (C sum n l, C carry n l) (gate-adds (v ((nodeAt t n) .a)) (v ((nodeAt t n) .b)) (third ((nodeAt t n) .kind) (v ((nodeAt t n) .c))))
-
-      go : (δ : Dir) → Ord δ (nodeIn v (nodeAt t n)) (nodeOut v n)
-      go iff = omega (arith, e)
-      go onlyif = omega (arith, e)
+  canon-each δ t v C n l =
+      let nd = nodeAt t n in
+      let i : ℕ = inputs (nd .kind) (v (nd .a)) (v (nd .b)) (v (nd .c)) in
+      rw (C sum n l, C carry n l)
+      (ord-of (nd .kind) δ (v (nd .a)) (v (nd .b)) (v (nd .c)) (bitOf sum i) (bitOf carry i)
+      (gate-keeps (nd .kind) δ (v (nd .a)) (v (nd .b)) (v (nd .c)) (bitOf sum i) (bitOf carry i) (gate-own (nd .kind) sum δ (v (nd .a)) (v (nd .b)) (v (nd .c))) (gate-own (nd .kind) carry δ (v (nd .a)) (v (nd .b)) (v (nd .c)))))

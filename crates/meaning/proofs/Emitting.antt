@@ -17,8 +17,9 @@ use Rattle.model.specs.Emit.{Em, gateAt, takeVar, mark, write, children, node, 
 use Rattle.model.specs.Bounds.{plus1, follow, Clauses}
 use Rattle.meaning.proofs.Implications.{clauses-append}
 use Rattle.meaning.proofs.Tests.{and-l, and-r, and-i, T-of}
-use Rattle.meaning.specs.Value.{third, ForFull}
-use Rattle.meaning.proofs.Rows.{gateB, rowsHold, rowsAt-is, gate-complete, rows-third}
+use Rattle.meaning.specs.Gates.{inputs, bitOf, gateTrue}
+use Rattle.meaning.specs.Value.{ForFull}
+use Rattle.meaning.proofs.Gates.{gate-means, gate-own}
 use Rattle.meaning.proofs.Access.{Raw, raw-setVar, raw-setMark, node-setVar, node-setMark, var-setMark, marked-setVar, var-setVar, var-kept, var-cases, marked-same, marked-cases, length-setVar, length-setMark}
 use Rattle.meaning.proofs.Ranges.{Lw, NZs, NZs-append, NZs-mono, gate-nz}
 
@@ -175,7 +176,7 @@ module _ (N F : ℕ) where
     pub holds : T (clausesTrue α (e .sink))
 
   abbrev pub Canon : (ℕ → Bool) → List ℕ → Type 0
-  Canon v t = (β : Bit) (n : ℕ) → n < N → v (bitW β n) ≡ gateB β (v ((nodeAt t n) .a)) (v ((nodeAt t n) .b)) (third ((nodeAt t n) .kind) (v ((nodeAt t n) .c)))
+  Canon v t = (β : Bit) (n : ℕ) → n < N → v (bitW β n) ≡ bitOf β (inputs ((nodeAt t n) .kind) (v ((nodeAt t n) .a)) (v ((nodeAt t n) .b)) (v ((nodeAt t n) .c)))
 
   abbrev pub Onward : Em Clauses → Em Clauses → Type 0
   Onward e e′ = (v α : ℕ → Bool) → Canon v (e .table) → Good v α e → (α′ : ℕ → Bool) × Good v α′ e′ × ((y : ℕ) → y < e .next → α′ y ≡ α y)
@@ -422,9 +423,11 @@ module _ (N F : ℕ) where
 
   pub rows-are : (t : List ℕ) (β : Bit) (δ : Dir) (n : ℕ) (α : ℕ → Bool) (a b c o : Bool)
       → litTrue α (litAt t ((nodeAt t n) .a)) ≡ a → litTrue α (litAt t ((nodeAt t n) .b)) ≡ b → litTrue α (litAt t ((nodeAt t n) .c)) ≡ c → litTrue α (litAt t (bitW β n)) ≡ o
-      → clausesTrue α (gateAt t β δ n) ≡ rowsHold ((nodeAt t n) .kind) β δ a b c o
-  unfolding gateAt gate litTrue
-  rows-are t β δ n α a b c o p q r s = rowsAt-is α (signs ((nodeAt t n) .kind) β δ) (litAt t ((nodeAt t n) .a) ∷ litAt t ((nodeAt t n) .b) ∷ litAt t ((nodeAt t n) .c) ∷ pL (var t β n) ∷ []) ∙ rw (← p, ← q, ← r, ← s, lit-bitW t β n)
+      → clausesTrue α (gateAt t β δ n) ≡ gateTrue ((nodeAt t n) .kind) β δ a b c o
+  unfolding gateAt
+  rows-are t β δ n α a b c o p q r s =
+      let nd = nodeAt t n in
+      gate-means α (nd .kind) β δ (litAt t (nd .a)) (litAt t (nd .b)) (litAt t (nd .c)) (pL (var t β n)) ∙ rw (← p, ← q, ← r, ← s, lit-bitW t β n)
 
   write-post : (β : Bit) (δ : Dir) (n : ℕ) (e : Em Clauses) → n < N → Base e → var (e .table) β n ≢ 0
       → Mk (e .table) δ ((nodeAt (e .table) n) .a) → Mk (e .table) δ ((nodeAt (e .table) n) .b) → Mk (e .table) δ ((nodeAt (e .table) n) .c) → Post e (write follow β δ n e)
@@ -477,8 +480,8 @@ module _ (N F : ℕ) where
       fits : (v α : ℕ → Bool) → Canon v t → Good v α e → T (clausesTrue α new)
       fits v α C G =
           let nd = nodeAt t n in
-          rw (rows-are t β δ n α (v (nd .a)) (v (nd .b)) (v (nd .c)) (v (bitW β n)) (G .val _ ka) (G .val _ kb) (G .val _ kc) (G .val _ ko), C β n l, rows-third (nd .kind) β δ (v (nd .a)) (v (nd .b)) (v (nd .c)) (gateB β (v (nd .a)) (v (nd .b)) (third (nd .kind) (v (nd .c)))))
-          (gate-complete (nd .kind) β δ (v (nd .a)) (v (nd .b)) (v (nd .c)))
+          rw (rows-are t β δ n α (v (nd .a)) (v (nd .b)) (v (nd .c)) (v (bitW β n)) (G .val _ ka) (G .val _ kb) (G .val _ kc) (G .val _ ko), C β n l)
+          (T-of _ (gate-own (nd .kind) β δ (v (nd .a)) (v (nd .b)) (v (nd .c))))
 
   -- each mark that is new is right
   abbrev pub New : Em Clauses → Em Clauses → Type 0

@@ -1,5 +1,5 @@
 -- What holds of the machine after every accepted call, and what follows of the clauses. Assumes nothing.
-use mathlib.Core.Path.{_≡_, refl}
+use mathlib.Core.Path.{_≡_, refl, sym, _∙_}
 use mathlib.Core.Logic.{_≢_}
 use mathlib.Core.Bool.{Bool, false, not}
 use mathlib.Core.List.{List, [], _∷_}
@@ -14,9 +14,10 @@ use Rattle.model.specs.Compare.{outLits}
 use Rattle.meaning.specs.Value.{weigh, value, Ord, nodeIn, nodeOut}
 use Rattle.meaning.proofs.Shape.{Alls}
 use Rattle.meaning.specs.States.{Rec, St, comp, mk}
-use Rattle.meaning.proofs.Rows.{gate-sound, inOrder}
+use Rattle.meaning.proofs.Tests.{T-true}
+use Rattle.meaning.proofs.Gates.{gate-keeps}
 use Rattle.meaning.proofs.Emitting.{bit-code, Entails, Mk, OK, OutW, Base, Good, rows-are}
-use Rattle.meaning.proofs.Canonical.{canonV}
+use Rattle.meaning.proofs.Canonical.{ord-of, canonV}
 
 -- a term's word is a literal of an input variable
 abbrev pub Leaf : ℕ → ℕ → Type 0
@@ -80,10 +81,6 @@ module _ (F : ℕ) where
       let r = I .cover (Mk (st .em .table) δ) (λ m h k. let q = I .right sum δ m h (mk-sum (st .em .table) δ m k) in (q .ka, q .kb, q .kc)) o n l in
       (mk-sum (st .em .table) δ n (r .0), mk-car (st .em .table) δ n (r .1))
 
-  order : (δ : Dir) (i o : ℕ) → T (inOrder δ i o) → Ord δ i o
-  order iff i o t = leb→le i o t
-  order onlyif i o t = leb→le o i t
-
   -- so the words' values keep the order at each node
   pub each-node : (st : St) (δ : Dir) (α : ℕ → Bool) → Inv st → T (clausesTrue α (st .em .sink)) → Alls (Mk (st .em .table) δ) (boxes (st .outs))
       → (n : ℕ) → n < st .N → Ord δ (nodeIn (λ w. litTrue α (litAt (st .em .table) w)) (nodeAt (st .em .table) n)) (nodeOut (λ w. litTrue α (litAt (st .em .table) w)) n)
@@ -94,6 +91,7 @@ module _ (F : ℕ) where
       let x = I .right sum δ n l (m .0) in
       let y = I .right carry δ n l (m .1) in
       let v : ℕ → Bool = λ w. litTrue α (litAt t w) in
-      order δ _ _ (gate-sound (nd .kind) δ (v (nd .a)) (v (nd .b)) (v (nd .c)) (v (sumWord n)) (v (carryWord n))
-      (rw (rows-are (st .N) F t sum δ n α _ _ _ _ refl refl refl refl) at (x .rows α c))
-      (rw (rows-are (st .N) F t carry δ n α _ _ _ _ refl refl refl refl) at (y .rows α c)))
+      ord-of (nd .kind) δ (v (nd .a)) (v (nd .b)) (v (nd .c)) (v (sumWord n)) (v (carryWord n))
+      (gate-keeps (nd .kind) δ (v (nd .a)) (v (nd .b)) (v (nd .c)) (v (sumWord n)) (v (carryWord n))
+      (sym (rows-are (st .N) F t sum δ n α _ _ _ _ refl refl refl refl) ∙ T-true _ (x .rows α c))
+      (sym (rows-are (st .N) F t carry δ n α _ _ _ _ refl refl refl refl) ∙ T-true _ (y .rows α c)))

@@ -6,7 +6,7 @@ pub mod Starred
 pub mod Tests
 pub mod Access
 pub mod Tables
-pub mod Rows
+pub mod Gates
 pub mod Ledger
 pub mod Comparing
 pub mod Ranges
