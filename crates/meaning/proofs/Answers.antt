@@ -16,7 +16,8 @@ use Rattle.model.specs.Nodes.{litBy, litAt}
 use Rattle.model.specs.Buckets.{Pending, box, boxes}
 use Rattle.model.specs.Compare.{outLit, outLits, comparator}
 use Rattle.meaning.specs.Value.{b2n, weigh, value, cnt, Ord}
-use Rattle.meaning.specs.Worth.{weights, valO, outVal}
+use Rattle.meaning.specs.Worth.{weights}
+use Rattle.meaning.specs.Outs.{outTrue, outValue}
 use Rattle.meaning.specs.States.{Rec, St, mk, lookup, Answer, unneeded, lit, unanswered, upLit, loLit, ifNone, totalSt, upper, lower}
 use Rattle.meaning.proofs.Tests.{T-of}
 use Rattle.meaning.proofs.Emitting.{Canon}
@@ -56,13 +57,15 @@ weigh-le v [] = omega arith
 weigh-le v (t ∷ ts) = omega (arith, weigh-le v ts, times-le (t .weight) (v (t .word)))
 
 -- the outputs' value, by words and by literals
-box-val : (α : ℕ → Bool) (t : List ℕ) (w : ℕ) → b2n (valO α (outLit t w)) ≡ cnt (λ x. litTrue α (litAt t x)) (box w)
-box-val α t zero = refl
-box-val α t (suc w) = omega arith
+box-val : (b : Bool) → cond b 1 0 ≡ b2n b + 0
+box-val true = refl
+box-val false = refl
 
-pub outs-val : (α : ℕ → Bool) (t : List ℕ) (ws : List ℕ) → outVal α (outLits t ws) ≡ value (λ x. litTrue α (litAt t x)) (boxes ws)
+pub outs-val : (α : ℕ → Bool) (t : List ℕ) (ws : List ℕ) → outValue α (outLits t ws) ≡ value (λ x. litTrue α (litAt t x)) (boxes ws)
+unfolding outValue outTrue
 outs-val α t [] = refl
-outs-val α t (w ∷ ws) = rw (box-val α t w, outs-val α t ws)
+outs-val α t (zero ∷ ws) = rw (outs-val α t ws)
+outs-val α t (suc w ∷ ws) = rw (box-val (litTrue α (litAt t (suc w))), outs-val α t ws)
 
 pub outs-len : (t : List ℕ) (ws : List ℕ) → length (outLits t ws) ≡ length ws
 outs-len t [] = refl
@@ -91,7 +94,7 @@ sumAll st α = weigh (leaf α) (st .done) + weigh (leaf α) (st .pend)
 module _ (F : ℕ) where
   -- the clauses bound the sum by the outputs' value
   bounded : (st : St) (δ : Dir) (α α′ : ℕ → Bool) (x : Rec) → Inv F st → T (clausesTrue α′ (st .em .sink)) → ((y : ℕ) → y < F → α′ y ≡ α y) → RecOK F st x → T (mk δ x)
-      → Ord δ (weigh (leaf α) (st .done)) (outVal α′ (outLits (st .em .table) (st .outs)))
+      → Ord δ (weigh (leaf α) (st .done)) (outValue α′ (outLits (st .em .table) (st .outs)))
   bounded st δ α α′ x I c s R m =
       let t = st .em .table in
       let v : ℕ → Bool = λ w. litTrue α′ (litAt t w) in
@@ -131,9 +134,9 @@ module _ (F : ℕ) where
               let m : T (mk iff x) = T-of (x .mi) p in
               let R = f .0 in
               let os = outLits (st .em .table) (st .outs) in
-              let b : weigh (leaf α) (st .done) ≤ outVal α′ os = bounded st iff α α′ x I c s R m in
+              let b : weigh (leaf α) (st .done) ≤ outValue α′ os = bounded st iff α α′ x I c s R m in
               let lt : x .r < 2 ^ length os = rw (outs-len (st .em .table) (st .outs)) (R .small) in
-              let g : outVal α′ os ≤ x .r = nlt (x .r) (outVal α′ os) (λ h. T-not (α′ (x .rv)) k′ ((compare-if α′ os (x .r) (pL (x .rv)) lt) .0 (R .clauses iff m α′ c) h)) in
+              let g : outValue α′ os ≤ x .r = nlt (x .r) (outValue α′ os) (λ h. T-not (α′ (x .rv)) k′ (compare-if α′ os (x .r) (pL (x .rv)) lt (R .clauses iff m α′ c) h)) in
               let q : x .r ≡ U = f .1 in
               omega arith
 
@@ -164,9 +167,9 @@ module _ (F : ℕ) where
               let m : T (mk onlyif x) = T-of (x .mo) p in
               let R = f .0 in
               let os = outLits (st .em .table) (st .outs) in
-              let b : outVal α′ os ≤ weigh (leaf α) (st .done) = bounded st onlyif α α′ x I c s R m in
+              let b : outValue α′ os ≤ weigh (leaf α) (st .done) = bounded st onlyif α α′ x I c s R m in
               let lt : x .r < 2 ^ length os = rw (outs-len (st .em .table) (st .outs)) (R .small) in
-              let g : x .r < outVal α′ os = (compare-only α′ os (x .r) (pL (x .rv)) lt) .0 (R .clauses onlyif m α′ c) k′ in
+              let g : x .r < outValue α′ os = compare-only α′ os (x .r) (pL (x .rv)) lt (R .clauses onlyif m α′ c) k′ in
               let q : x .r ≡ L = f .1 in
               omega arith
 

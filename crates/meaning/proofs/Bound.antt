@@ -18,27 +18,18 @@ use Rattle.model.specs.Compare.{Outs, outLits, comparator}
 use Rattle.model.specs.Bounds.{Clauses}
 use Rattle.meaning.specs.Value.{b2n, weigh, value, cnt}
 use Rattle.meaning.proofs.Shape.{All, Alls}
-use Rattle.meaning.specs.Worth.{weights, outVal}
+use Rattle.meaning.specs.Worth.{weights}
+use Rattle.meaning.specs.Outs.{outTrue, outValue}
 use Rattle.meaning.specs.States.{Rec, St, comp, mk, setMk, lookup, markRec, writeBound, boundBy, boundSt, bounds}
 use Rattle.meaning.proofs.Implications.{clauses-append}
 use Rattle.meaning.proofs.Tests.{and-l, and-r, and-i}
-use Rattle.meaning.proofs.Comparing.{compare-if, compare-only, AgreeO, if-agree, only-agree}
+use Rattle.meaning.proofs.Comparing.{compare-own, AgreeO, compare-agree}
 use Rattle.meaning.proofs.Emitting.{OutW, known-nz, Entails, Dep, Mk, Known, Base, Grow, Canon, OK-kept, known-out, lit-agree, upd, upd-same, upd-other}
 use Rattle.meaning.proofs.Canonical.{canonV, canon-leaf, canon-is, canon-each}
 use Rattle.meaning.proofs.Invariant.{Leaves, AllR, RecOK, canon, Fits, Inv}
 use Rattle.meaning.proofs.Ranges.{NZos, NZs-append, NZs-mono, comp-nz}
 use Rattle.meaning.proofs.Answers.{outs-val, outs-len, found}
 use Rattle.meaning.proofs.Advance.{AllR-map, AllR-map₂}
-
-comp-agree : (δ : Dir) (α α′ : ℕ → Bool) (os : Outs) (r : ℕ) (b : Lit) → AgreeO α α′ os → litTrue α b ≡ litTrue α′ b → clausesTrue α (comp δ os r b) ≡ clausesTrue α′ (comp δ os r b)
-unfolding comparator
-comp-agree iff α α′ os r b h e = if-agree α α′ os r b h e
-comp-agree onlyif α α′ os r b h e = only-agree α α′ os r b h e
-
-comp-true : (δ : Dir) (α : ℕ → Bool) (os : Outs) (r : ℕ) (b : Lit) → r < 2 ^ length os → litTrue α b ≡ ltb r (outVal α os) → T (clausesTrue α (comp δ os r b))
-unfolding comparator
-comp-true iff α os r b h e = (compare-if α os r b h) .1 (λ k. rw e (lt→ltb r (outVal α os) k))
-comp-true onlyif α os r b h e = (compare-only α os r b h) .1 (λ k. ltb→lt r (outVal α os) (rw e at k))
 
 -- the total is below what the outputs can hold
 ones-weigh : (F : ℕ) (v : ℕ → Bool) (ts : List Pending) → Leaves F ts → ((w : ℕ) → w % 4 < 2 → v w ≡ true) → weigh v ts ≡ weights ts
@@ -90,6 +81,7 @@ module _ (F : ℕ) where
       below v l = omega arith
 
   agree-outs : (N : ℕ) (t : List ℕ) (α α′ : ℕ → Bool) → ((w : ℕ) → Known N F t w → litTrue α (litAt t w) ≡ litTrue α′ (litAt t w)) → (ws : List ℕ) → Alls (Known N F t) (boxes ws) → AgreeO α α′ (outLits t ws)
+  unfolding outTrue
   agree-outs N t α α′ h [] k = tt
   agree-outs N t α α′ h (zero ∷ ws) k = (refl, agree-outs N t α α′ h ws (k .1))
   agree-outs N t α α′ h (suc w ∷ ws) k = (h (suc w) (k .0 .0), agree-outs N t α α′ h ws (k .1))
@@ -158,10 +150,13 @@ module _ (F : ℕ) where
       g : Grow (st .N) F (st .em) e′
       g = record { node = λ m. refl; vars = λ β m h k. refl; marks = λ β δ′ m k. k; adds = λ α h. and-l (clausesTrue α (st .em .sink)) (clausesTrue α new) (rw (clauses-append α (st .em .sink) new) at h); upto = up }
 
+      sm : r < 2 ^ length os
+      sm = rw (outs-len t (st .outs)) small
+
       dep′ : Dep next (st .em .sink ++ new)
       dep′ α α′ h =
           let at : (w : ℕ) → Known (st .N) F t w → litTrue α (litAt t w) ≡ litTrue α′ (litAt t w) = λ w k. lit-agree α′ α next (litAt t w) h (lt-of-lt-of-le (B .low w k) up) in
-          let q : clausesTrue α new ≡ clausesTrue α′ new = comp-agree δ α α′ os r (pL rv) (agree-outs (st .N) t α α′ at (st .outs) known) (h rv lo) in
+          let q : clausesTrue α new ≡ clausesTrue α′ new = compare-agree δ α α′ os r (pL rv) sm (agree-outs (st .N) t α α′ at (st .outs) known) (h rv lo) in
           let p : clausesTrue α (st .em .sink) ≡ clausesTrue α′ (st .em .sink) = B .dep α α′ (λ y k. h y (lt-of-lt-of-le k up)) in
           clauses-append α (st .em .sink) new ∙ rw (p, q) (sym (clauses-append α′ (st .em .sink) new))
 
@@ -170,9 +165,8 @@ module _ (F : ℕ) where
           let v = canon F st α in
           let β = c .new in
           let val : (w : ℕ) → Known (st .N) F t w → litTrue β (litAt t w) ≡ v w = λ w k. lit-agree α′ β (st .em .next) (litAt t w) (c .old) (B .low w k) ∙ G .good .val w k in
-          let ov : outVal β os ≡ value v (boxes (st .outs)) = outs-val β t (st .outs) ∙ value-ap (λ x. litTrue β (litAt t x)) v (st .outs) (alls-val (st .N) t (λ w. litTrue β (litAt t w) ≡ v w) val (st .outs) known) in
-          let sm : r < 2 ^ length os = rw (outs-len t (st .outs)) small in
-          let hn : T (clausesTrue β new) = comp-true δ β os r (pL rv) sm (rw ov (c .bound)) in
+          let ov : outValue β os ≡ value v (boxes (st .outs)) = outs-val β t (st .outs) ∙ value-ap (λ x. litTrue β (litAt t x)) v (st .outs) (alls-val (st .N) t (λ w. litTrue β (litAt t w) ≡ v w) val (st .outs) known) in
+          let hn : T (clausesTrue β new) = compare-own δ β os r (pL rv) sm (rw ov (c .bound)) in
           let ho : T (clausesTrue β (st .em .sink)) = rw (B .dep β α′ (c .old)) (G .good .holds) in (
             β,
             record {

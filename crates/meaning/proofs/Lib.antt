@@ -8,6 +8,7 @@ pub mod Access
 pub mod Tables
 pub mod Gates
 pub mod Ledger
+pub mod Compare
 pub mod Comparing
 pub mod Ranges
 pub mod Shape

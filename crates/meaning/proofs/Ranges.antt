@@ -10,10 +10,8 @@ use lib.Dec.{eqb}
 use lib.ListN.{length}
 use Rattle.model.specs.Logic.{Lit, pL, nL, neg, variable}
 use Rattle.model.specs.Signs.{Kind, half, full, Bit, sum, carry, Dir, iff, onlyif, Row, signs, signed, rowAt, rowsAt}
-use Rattle.model.specs.Compare.{Outs, ahead, above, higher, comparator}
+use Rattle.model.specs.Compare.{Outs, ahead, above, higher, begins, clauseOf, compareRows, comparator}
 use Rattle.meaning.specs.Value.{ForFull}
-use Rattle.meaning.specs.States.{comp}
-use Rattle.meaning.proofs.Comparing.{ownIf, ifClauses, ownOnly, onlyAux}
 
 -- a literal of a variable from 1 to below x
 abbrev pub Lw : ℕ → Lit → Type 0
@@ -96,35 +94,34 @@ module _ (x : ℕ) where
   tail-nz [] r h = tt
   tail-nz (o ∷ os) r h = above-nz (r % 2) o (higher os (r / 2)) (h .0) (tail-nz os (r / 2) (h .1))
 
-  ownIf-nz : (m : ℕ) (o : Option Lit) (t : Option (List Lit)) (b : Lit) → NZo o → NZt t → Lw x b → NZs (ownIf m o t b)
-  ownIf-nz zero none t b h k l = tt
-  ownIf-nz zero (some o) none b h k l = tt
-  ownIf-nz zero (some o) (some ls) b h k l = ((neg-nz o h, NZc-append ls (b ∷ []) k (l, tt)), tt)
-  ownIf-nz (suc m) o t b h k l = tt
+  begins-nz : (δ : Dir) (m : ℕ) (o : Option Lit) → NZo o → NZt (begins δ m o)
+  begins-nz iff zero none h = tt
+  begins-nz iff zero (some o) h = (neg-nz o h, tt)
+  begins-nz iff (suc m) o h = tt
+  begins-nz onlyif zero o h = tt
+  begins-nz onlyif (suc m) none h = tt
+  begins-nz onlyif (suc m) (some o) h = (h, tt)
 
-  if-nz : (os : Outs) (r : ℕ) (b : Lit) → NZos os → Lw x b → NZs (ifClauses os r b)
-  if-nz [] r b h l = tt
-  if-nz (o ∷ os) r b h l = NZs-append (ownIf (r % 2) o (higher os (r / 2)) b) (ifClauses os (r / 2) b) (ownIf-nz (r % 2) o (higher os (r / 2)) b (h .0) (tail-nz os (r / 2) (h .1)) l) (if-nz os (r / 2) b (h .1) l)
+  clause-nz : (a t : Option (List Lit)) (b : Lit) → NZt a → NZt t → Lw x b → NZs (clauseOf a t b)
+  clause-nz none t b h k l = tt
+  clause-nz (some a) none b h k l = tt
+  clause-nz (some a) (some ls) b h k l = (NZc-append a (ls ++ (b ∷ [])) h (NZc-append ls (b ∷ []) k (l, tt)), tt)
 
-  ownOnly-nz : (m : ℕ) (o : Option Lit) (t : Option (List Lit)) (b : Lit) → NZo o → NZt t → Lw x b → NZs (ownOnly m o t b)
-  ownOnly-nz zero o t b h k l = tt
-  ownOnly-nz (suc m) none none b h k l = tt
-  ownOnly-nz (suc m) (some o) none b h k l = tt
-  ownOnly-nz (suc m) none (some ls) b h k l = (NZc-append ls (neg b ∷ []) k (neg-nz b l, tt), tt)
-  ownOnly-nz (suc m) (some o) (some ls) b h k l = ((h, NZc-append ls (neg b ∷ []) k (neg-nz b l, tt)), tt)
+  compare-nz : (δ : Dir) (os : Outs) (r : ℕ) (b : Lit) → NZos os → Lw x b → NZs (compareRows δ os r b)
+  compare-nz δ [] r b h l = tt
+  compare-nz δ (o ∷ os) r b h l =
+      NZs-append (clauseOf (begins δ (r % 2) o) (higher os (r / 2)) b) (compareRows δ os (r / 2) b)
+      (clause-nz (begins δ (r % 2) o) (higher os (r / 2)) b (begins-nz δ (r % 2) o (h .0)) (tail-nz os (r / 2) (h .1)) l)
+      (compare-nz δ os (r / 2) b (h .1) l)
 
-  only-nz : (os : Outs) (r : ℕ) (b : Lit) → NZos os → Lw x b → NZs (onlyAux os r b)
-  only-nz [] r b h l = tt
-  only-nz (o ∷ os) r b h l = NZs-append (ownOnly (r % 2) o (higher os (r / 2)) b) (onlyAux os (r / 2) b) (ownOnly-nz (r % 2) o (higher os (r / 2)) b (h .0) (tail-nz os (r / 2) (h .1)) l) (only-nz os (r / 2) b (h .1) l)
-
-  pub comp-nz : (δ : Dir) (os : Outs) (r : ℕ) (b : Lit) → NZos os → Lw x b → NZs (comp δ os r b)
+  pub comp-nz : (δ : Dir) (os : Outs) (r : ℕ) (b : Lit) → NZos os → Lw x b → NZs (comparator δ os r b)
   unfolding comparator
-  comp-nz iff os r b h l = if-nz os r b h l
+  comp-nz iff os r b h l = compare-nz iff os r b h l
   comp-nz onlyif os r b h l = go (eqb (r + 1) (2 ^ length os))
     where
-      go : (q : Bool) → NZs (cond q ((neg b ∷ []) ∷ []) (onlyAux os (r + 1) b))
+      go : (q : Bool) → NZs (cond q ((neg b ∷ []) ∷ []) (compareRows onlyif os (r + 1) (neg b)))
       go true = ((neg-nz b l, tt), tt)
-      go false = only-nz os (r + 1) b h l
+      go false = compare-nz onlyif os (r + 1) (neg b) h (neg-nz b l)
 
 -- a larger x
 NZc-mono : (x y : ℕ) → x ≤ y → (c : List Lit) → NZc x c → NZc y c

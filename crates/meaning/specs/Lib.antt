@@ -4,6 +4,7 @@ pub mod Truth
 pub mod Histories
 pub mod Corollaries
 pub mod Starred
+pub mod Outs
 pub mod Gates
 pub mod Value
 pub mod Worth

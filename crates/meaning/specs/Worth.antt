@@ -13,12 +13,3 @@ use Rattle.meaning.specs.Value.{b2n}
 abbrev pub weights : List Pending → ℕ
 weights [] = 0
 weights (t ∷ ts) = t .weight + weights ts
-
--- the value of outputs, some absent
-abbrev pub valO : (ℕ → Bool) → Option Lit → Bool
-valO α none = false
-valO α (some l) = litTrue α l
-
-abbrev pub outVal : (ℕ → Bool) → Outs → ℕ
-outVal α [] = 0
-outVal α (o ∷ os) = b2n (valO α o) + 2 * outVal α os
