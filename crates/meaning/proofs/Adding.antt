@@ -14,8 +14,8 @@ use Rattle.model.specs.Buckets.{Pending}
 use Rattle.model.specs.Machine.{Party, pendingOf, pending, weighed, addTo, asPending, addAll, weightsOf, wordsOf}
 use Rattle.model.specs.Calls.{badTerm, firstBadTerm, withPending}
 use Rattle.model.proofs.Buffer.{sets-stand}
+use Rattle.meaning.specs.States.{weights}
 use Rattle.meaning.specs.Value.{b2n, weigh}
-use Rattle.meaning.specs.Worth.{weights}
 use Rattle.meaning.proofs.Invariant.{Leaf, Leaves, leaf}
 
 pub weighed-is : (ps : List Pending) → weighed ps ≡ weights ps

@@ -13,12 +13,11 @@ use borrow.Author.Tests.{eqb-true, leb-true, lt-ltb, le-ltb}
 use Rattle.model.specs.Logic.{pL, nL, litTrue, clausesTrue}
 use Rattle.model.specs.Signs.{Dir, iff, onlyif}
 use Rattle.model.specs.Nodes.{litBy, litAt}
-use Rattle.model.specs.Buckets.{Pending, box, boxes}
-use Rattle.model.specs.Compare.{outLit, outLits, comparator}
-use Rattle.meaning.specs.Value.{b2n, weigh, value, cnt, Ord}
-use Rattle.meaning.specs.Worth.{weights}
+use Rattle.model.specs.Buckets.{Pending, boxes}
+use Rattle.model.specs.Compare.{outLits, comparator}
+use Rattle.meaning.specs.Value.{b2n, weigh, value, Ord}
 use Rattle.meaning.specs.Outs.{outTrue, outValue}
-use Rattle.meaning.specs.States.{Rec, St, mk, lookup, Answer, unneeded, lit, unanswered, upLit, loLit, ifNone, totalSt, upper, lower}
+use Rattle.meaning.specs.States.{Rec, St, mk, lookup, Answer, unneeded, lit, unanswered, upLit, loLit, ifNone, totalSt, upper, lower, weights}
 use Rattle.meaning.proofs.Tests.{T-of}
 use Rattle.meaning.proofs.Emitting.{Canon}
 use Rattle.meaning.proofs.Canonical.{canon-leaf, canon-is, canon-each}

@@ -6,7 +6,7 @@ use mathlib.Core.List.{List, [], _∷_, _++_}
 use mathlib.Core.Option.{Option, none, some}
 use Prim.Native.Nat.{ℕ, zero, suc, _+_, _*_, _%_, _≤_, _<_, _^_}
 use native.Mathlib.Omega.{arith}
-use lib.Dec.{T, ltb, eqb, ltb→lt, lt→ltb}
+use lib.Dec.{T, ltb, eqb}
 use lib.ListN.{length}
 use native.Mathlib.Nat.{lt-of-lt-of-le}
 use Rattle.model.specs.Logic.{Lit, pL, variable, litTrue, clausesTrue}
@@ -14,13 +14,12 @@ use Rattle.model.specs.Signs.{Dir, iff, onlyif}
 use Rattle.model.specs.Nodes.{litAt}
 use Rattle.model.specs.Buckets.{Pending, box, boxes}
 use Rattle.model.specs.Emit.{Em}
-use Rattle.model.specs.Compare.{Outs, outLits, comparator}
+use Rattle.model.specs.Compare.{Outs, outLits}
 use Rattle.model.specs.Bounds.{Clauses}
 use Rattle.meaning.specs.Value.{b2n, weigh, value, cnt}
 use Rattle.meaning.proofs.Shape.{All, Alls}
-use Rattle.meaning.specs.Worth.{weights}
 use Rattle.meaning.specs.Outs.{outTrue, outValue}
-use Rattle.meaning.specs.States.{Rec, St, comp, mk, setMk, lookup, markRec, writeBound, boundBy, boundSt, bounds}
+use Rattle.meaning.specs.States.{Rec, St, comp, mk, setMk, lookup, markRec, writeBound, boundBy, boundSt, bounds, weights}
 use Rattle.meaning.proofs.Implications.{clauses-append}
 use Rattle.meaning.proofs.Tests.{and-l, and-r, and-i}
 use Rattle.meaning.proofs.Comparing.{compare-own, AgreeO, compare-agree}

@@ -16,7 +16,7 @@ use Rattle.model.specs.Buckets.{width, buckets, buildAll, structure, Pending, p
 use Rattle.model.specs.Emit.{Em, gateAt}
 use Rattle.model.specs.Bounds.{Clauses}
 use Rattle.meaning.specs.Value.{weigh, value, Ord, nodeIn, nodeOut, Each, ForFull}
-use Rattle.meaning.proofs.Ledger.{build-law, spread-law, join-law, kept}
+use Rattle.meaning.proofs.Ledger.{kept}
 use Rattle.meaning.proofs.Shape.{All, Alls, All-append, All-right, Downs, Bits, build-cover, Below, Stands, build-below, build-ones, boxes-fronts, build-keep, Kids, build-kids, Alls-map}
 use Rattle.meaning.specs.States.{St, built, buildSt}
 use Rattle.meaning.proofs.Access.{Raw}

@@ -1,9 +1,9 @@
 -- What the comparators' law gives to one bound: what its clauses make of the outputs' value, that its own choice satisfies them, and that their
 -- truth rests on the outputs and the bound alone. Assumes nothing.
-use mathlib.Core.Path.{_≡_, refl, sym, ap, _∙_}
-use mathlib.Core.Bool.{Bool, true, false, cond}
+use mathlib.Core.Path.{_≡_, refl, sym, _∙_}
+use mathlib.Core.Bool.{Bool, true, false}
 use mathlib.Core.List.{[], _∷_}
-use Prim.Native.Nat.{ℕ, _+_, _*_, _<_, _^_}
+use Prim.Native.Nat.{ℕ, _<_, _^_}
 use lib.Dec.{T, ltb, ltb→lt, lt→ltb}
 use lib.ListN.{length}
 use Rattle.model.specs.Logic.{Lit, litTrue, clausesTrue}

@@ -3,7 +3,7 @@
 use mathlib.Core.Path.{_≡_, refl, sym, ap, _∙_, subst}
 use mathlib.Core.Logic.{_≢_, _⊎_, inl, inr}
 use mathlib.Core.Bool.{Bool, true, false, not, cond}
-use mathlib.Core.List.{List, [], _∷_, _++_}
+use mathlib.Core.List.{List, _++_}
 use Prim.Native.Nat.{ℕ, zero, suc, _+_, _*_, _/_, _%_, _≤_, _<_}
 use native.Mathlib.Omega.{arith}
 use lib.Dec.{T, eqb, ltb}
@@ -11,7 +11,7 @@ use lib.ListN.{length}
 use borrow.Author.Tests.{eqb-true, eqb-false, ltb-true, ltb-false, lt-ltb, eq-eqb, ne-eqb}
 use native.Mathlib.Nat.{lt-of-lt-of-le}
 use Rattle.model.specs.Logic.{Lit, pL, nL, variable, litTrue, clausesTrue}
-use Rattle.model.specs.Signs.{Kind, half, full, Bit, sum, carry, Dir, signs, gate}
+use Rattle.model.specs.Signs.{Kind, half, full, Bit, sum, carry, Dir, gate}
 use Rattle.model.specs.Nodes.{sumWord, carryWord, Node, nodeAt, var, marked, setVar, setMark, litBy, litAt, inTable}
 use Rattle.model.specs.Emit.{Em, gateAt, takeVar, mark, write, children, node, byKind, emit}
 use Rattle.model.specs.Bounds.{plus1, follow, Clauses}

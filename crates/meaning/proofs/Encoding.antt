@@ -26,8 +26,7 @@ use Rattle.model.proofs.Emission.{reserve-map, reserve-leaves, reserve-rises, f
 use Rattle.meaning.specs.Truth.{areLits, areClauses}
 use Rattle.meaning.specs.Value.{weigh}
 use Rattle.meaning.proofs.Shape.{All}
-use Rattle.meaning.specs.Worth.{weights}
-use Rattle.meaning.specs.States.{Rec, St, recAt, recsOf, stOf, emitSt, encodeSt, bounds, reserveSt}
+use Rattle.meaning.specs.States.{Rec, St, recAt, recsOf, stOf, emitSt, encodeSt, bounds, reserveSt, weights}
 use Rattle.meaning.proofs.Ranges.{Lw, NZc, NZs}
 use Rattle.meaning.proofs.Emitting.{bitW, lit-bitW, known-bit}
 use Rattle.meaning.proofs.Invariant.{leaf, AllR, RecOK, Inv}

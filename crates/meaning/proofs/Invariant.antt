@@ -4,10 +4,10 @@ use mathlib.Core.Logic.{_≢_}
 use mathlib.Core.Bool.{Bool, false, not}
 use mathlib.Core.List.{List, [], _∷_}
 use Prim.Native.Nat.{ℕ, zero, suc, _/_, _%_, _<_, _^_}
-use lib.Dec.{T, ltb, leb→le}
+use lib.Dec.{T, ltb}
 use lib.ListN.{length}
 use Rattle.model.specs.Logic.{pL, litTrue, clausesTrue}
-use Rattle.model.specs.Signs.{Bit, sum, carry, Dir, iff, onlyif}
+use Rattle.model.specs.Signs.{Bit, sum, carry, Dir}
 use Rattle.model.specs.Nodes.{sumWord, carryWord, nodeAt, marked, litAt}
 use Rattle.model.specs.Buckets.{Pending, boxes}
 use Rattle.model.specs.Compare.{outLits}

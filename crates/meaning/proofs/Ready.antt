@@ -1,26 +1,22 @@
 -- A build that is not refused: the machine holds what it held, with nothing pending. Assumes nothing.
 use mathlib.Core.Path.{_≡_, refl, sym, ap, ap₂, _∙_}
-use mathlib.Core.Bool.{Bool, true, false, cond}
+use mathlib.Core.Bool.{Bool, false}
 use mathlib.Core.List.{List, [], _∷_, _++_}
-use Prim.Native.Nat.{ℕ, zero, suc, _+_, _*_, _/_, _≤_, _<_, _^_, min, max}
-use native.Mathlib.Nat.{pow-le-pow-right}
+use Prim.Native.Nat.{ℕ, suc, _+_, _*_, _/_, _≤_, _<_, min}
 use native.Mathlib.Decide.{decLt}
 use native.Mathlib.Omega.{arith}
-use borrow.Author.Tests.{eqb-true, ltb-false}
-use lib.Dec.{eqb}
+use borrow.Author.Tests.{ltb-false}
 use lib.ListN.{length, replicate, length-replicate}
 use Rattle.meaning.proofs.Shape.{present-outputs}
-use Rattle.model.specs.Limits.{greatest, mostTerms, mostTotal, mostOutputs, mostNodes}
+use Rattle.model.specs.Limits.{greatest, mostTerms, mostOutputs, mostNodes}
 use Rattle.model.specs.Signs.{Bit}
 use Rattle.model.specs.Nodes.{Node, putNodes, var}
-use Rattle.model.specs.Buckets.{Pending, bits, heaviest, width, Made, fronts, structure, ifPending, positionsAfter, nodesAfter, Outputs, present, outputsOf, Extended, extend}
+use Rattle.model.specs.Buckets.{Pending, heaviest, Made, fronts, structure, ifPending, positionsAfter, nodesAfter, Outputs, present, outputsOf, Extended, extend}
 use Rattle.model.specs.Machine.{Machine, pendingOf, pending, weighed, totalOf}
 use Rattle.model.specs.Bounds.{Clauses}
 use Rattle.model.specs.Calls.{built, tooWide, noNodes}
-use Rattle.model.proofs.Buffer.{sets-stand}
 use Rattle.meaning.specs.Value.{weigh}
-use Rattle.meaning.specs.Worth.{weights}
-use Rattle.meaning.specs.States.{stOf, buildSt}
+use Rattle.meaning.specs.States.{stOf, buildSt, weights}
 use Rattle.meaning.proofs.Tables.{puts}
 use Rattle.meaning.proofs.Invariant.{leaf, Inv}
 use Rattle.meaning.proofs.Answers.{sumAll}

@@ -25,8 +25,7 @@ use Rattle.model.specs.Calls.{start, badTerm, firstBadTerm, withPending, Added,
 use Rattle.model.proofs.Literals.{range}
 use Rattle.meaning.specs.Truth.{areClauses}
 use Rattle.meaning.specs.Histories.{withParty, moved, fresh}
-use Rattle.meaning.specs.Worth.{weights}
-use Rattle.meaning.specs.States.{stOf, addSt, raiseSt, overSt}
+use Rattle.meaning.specs.States.{stOf, addSt, raiseSt, overSt, weights}
 use Rattle.meaning.proofs.Invariant.{leaf, Inv}
 use Rattle.meaning.proofs.Answers.{sumAll}
 use Rattle.meaning.proofs.Advance.{raiseSt-inv}

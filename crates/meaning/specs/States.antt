@@ -15,7 +15,6 @@ use Rattle.model.specs.Compare.{Outs, comparator, outLits}
 use Rattle.model.specs.Machine.{Machine, pending}
 use Rattle.model.specs.Bounds.{plus1, follow, Clauses}
 use Rattle.model.specs.Calls.{clearNodes}
-use Rattle.meaning.specs.Worth.{weights}
 
 -- a bound record: value, variable, marks
 pub record Rec : Type 0 where
@@ -143,6 +142,11 @@ overSt st = record {
   done = st .done;
   pend = st .pend;
 }
+
+-- the sum of the terms' weights
+abbrev pub weights : List Pending → ℕ
+weights [] = 0
+weights (t ∷ ts) = t .weight + weights ts
 
 -- enforcing: no literal needed, a literal, or no answer
 pub data Answer : Type 0 where
