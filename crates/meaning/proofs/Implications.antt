@@ -41,12 +41,12 @@ module _ (α : ℕ → Bool) where
   negs-true [] = refl
   negs-true (l ∷ ls) = ap₂ _||_ (neg-true l) (negs-true ls) ∙ not-and (litTrue α l) (allTrue α ls)
 
-  one-append : (xs ys : List Lit) → oneTrue α (xs ++ ys) ≡ oneTrue α xs || oneTrue α ys
+  pub one-append : (xs ys : List Lit) → oneTrue α (xs ++ ys) ≡ oneTrue α xs || oneTrue α ys
   unfolding oneTrue
   one-append [] ys = refl
   one-append (x ∷ xs) ys = ap (λ (b : Bool). litTrue α x || b) (one-append xs ys) ∙ sym (or-assoc (litTrue α x) (oneTrue α xs) (oneTrue α ys))
 
-  clauses-append : (cs ds : List (List Lit)) → clausesTrue α (cs ++ ds) ≡ clausesTrue α cs && clausesTrue α ds
+  pub clauses-append : (cs ds : List (List Lit)) → clausesTrue α (cs ++ ds) ≡ clausesTrue α cs && clausesTrue α ds
   unfolding clausesTrue
   clauses-append [] ds = refl
   clauses-append (c ∷ cs) ds = ap (λ (b : Bool). oneTrue α c && b) (clauses-append cs ds) ∙ sym (and-assoc (oneTrue α c) (clausesTrue α cs) (clausesTrue α ds))

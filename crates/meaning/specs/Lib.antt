@@ -1,6 +1,10 @@
--- What the theorems' statements need beside the model: sides and constraints under a choice, what a gate says, what entries of buckets are
--- worth, and the table of starred cases.
+-- What the theorems' statements need beside the model: sides and constraints under a choice, calls in any order and DEMAND 3, what follows of
+-- it, the table of starred cases. And what their proofs speak of: gates, buckets and outputs under a choice, the encoder's state as lists.
 pub mod Truth
+pub mod Histories
+pub mod Corollaries
+pub mod Starred
 pub mod Gates
 pub mod Value
-pub mod Starred
+pub mod Outs
+pub mod States
