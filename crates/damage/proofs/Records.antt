@@ -1,17 +1,17 @@
 -- The tests of a record, on each way that the code takes, and of the parts put together. Assumes nothing.
-use mathlib.Core.Path.{_≡_}
+use mathlib.Core.Path.{_≡_, refl, sym}
 use mathlib.Core.Bool.{Bool, true, false, not, _||_, or-false}
 use mathlib.Core.List.{List}
-use Prim.Native.Nat.{ℕ, _<_, _≤_, _/_, _%_, _+_}
+use Prim.Native.Nat.{ℕ, _<_, _≤_, _/_, _%_, _+_, _*_}
 use native.Mathlib.Omega.{arith}
 use lib.Dec.{ltb, leb, eqb}
 use lib.IntN.{ℤ}
 use lib.ListN.{length}
-use borrow.Author.Tests.{lt-ltb, le-ltb, ne-eqb}
+use borrow.Author.Tests.{lt-ltb, le-ltb, le-leb, lt-leb, leb-true, leb-false, ltb-true, ltb-false, ne-eqb}
 use Rattle.model.specs.Limits.{greatest}
 use Rattle.model.specs.Machine.{Party, Machine}
 use Rattle.model.specs.Damage.{badChild, badThird, partyDamaged, nodesDamaged, boundsDamaged, bufferDamaged, sourceDamaged, tablesDamaged, allDamaged}
-use Rattle.damage.specs.Record.{badRecord}
+use Rattle.damage.specs.Record.{childEnd, badRecord}
 
 -- a child
 module _ (n w : ℕ) where
@@ -19,17 +19,40 @@ module _ (n w : ℕ) where
   unfolding badChild
   child-low h = rw (lt-ltb w 2 h)
 
-  pub child-literal : 2 ≤ w → w % 4 < 2 → ltb greatest (w / 4) ≡ badChild n w
-  unfolding badChild
-  child-literal h k =
-      let l : w % 4 ≤ 1 = omega arith in
-      rw (le-ltb w 2 h, lt-ltb (w % 4) 2 k, le-ltb 1 (w % 4) l, or-false)
+  pub end-literal : w % 4 < 2 → 2147483648 ≡ childEnd n w
+  unfolding childEnd
+  end-literal h = rw (lt-ltb (w % 4) 2 h)
 
-  pub child-node : 2 ≤ w → 2 ≤ w % 4 → leb n (w / 4) ≡ badChild n w
-  unfolding badChild
-  child-node h k =
-      let l : 1 < w % 4 = omega arith in
-      rw (le-ltb w 2 h, le-ltb (w % 4) 2 k, lt-ltb 1 (w % 4) l)
+  pub end-node : 2 ≤ w % 4 → 4 * n ≡ childEnd n w
+  unfolding childEnd
+  end-node h = rw (le-ltb (w % 4) 2 h)
+
+  -- both ends by the word, where the model has the number in it
+  literal-end : leb 2147483648 w ≡ ltb greatest (w / 4)
+  literal-end = go (leb 2147483648 w) refl
+    where
+      go : (q : Bool) → leb 2147483648 w ≡ q → q ≡ ltb greatest (w / 4)
+      go true e = sym (lt-ltb greatest (w / 4) (omega (arith, leb-true 2147483648 w e)))
+      go false e = sym (le-ltb greatest (w / 4) (omega (arith, leb-false 2147483648 w e)))
+
+  node-end : leb (4 * n) w ≡ leb n (w / 4)
+  node-end = go (leb (4 * n) w) refl
+    where
+      go : (q : Bool) → leb (4 * n) w ≡ q → q ≡ leb n (w / 4)
+      go true e = sym (le-leb n (w / 4) (omega (arith, leb-true (4 * n) w e)))
+      go false e = sym (lt-leb n (w / 4) (omega (arith, leb-false (4 * n) w e)))
+
+  child-by : (q : Bool) → ltb (w % 4) 2 ≡ q → 2 ≤ w → (r : ℕ) → r ≡ childEnd n w → leb r w ≡ badChild n w
+  unfolding childEnd badChild
+  child-by true k h r e =
+      let l : w % 4 ≤ 1 = omega (arith, ltb-true (w % 4) 2 k) in
+      rw (e, le-ltb w 2 h, k, le-ltb 1 (w % 4) l, or-false, literal-end)
+  child-by false k h r e =
+      let l : 1 < w % 4 = omega (arith, ltb-false (w % 4) 2 k) in
+      rw (e, le-ltb w 2 h, k, lt-ltb 1 (w % 4) l, node-end)
+
+  pub child-rest : 2 ≤ w → (r : ℕ) → r ≡ childEnd n w → leb r w ≡ badChild n w
+  child-rest h r e = child-by (ltb (w % 4) 2) refl h r e
 
   pub third-full : (kind : ℕ) → kind ≡ 2 → (r : Bool) → r ≡ badChild n w → r ≡ badThird kind n w
   unfolding badThird

@@ -10,25 +10,33 @@ ghost use lib.ListN.{length};
 ghost use Rattle.model.specs.Machine.{Party};
 ghost use Rattle.model.specs.Damage.{badChild, badThird, badNode, nodesDamaged, boundsDamaged, bufferDamaged, sourceDamaged, tablesDamaged, allDamaged};
 ghost use Rattle.party.specs.Read.{machineOf};
-ghost use Rattle.damage.specs.Record.{badRecord};
+ghost use Rattle.damage.specs.Record.{childEnd, badRecord};
 use literal::GREATEST;
 use party::State;
 
-// A child word of node i: 0 or 1, a literal above the greatest, or a bit of a node not below i.
-fn bad_child(i: usize, word: u32) -> bool
+// The first word of a child's kind that is damaged: a literal above the greatest, or a bit of a node not below node i. It is worked
+// out first, so that a record is tested without a jump that depends on its children's kinds.
+fn child_end(i: u32, word: u32) -> u64
+    ensures { λ r. ⌜ r ≡ childEnd i word ⌝ }
+{
+    if word % 4 < 2 {
+        return 2147483648;
+    }
+    4 * (i as u64)
+}
+
+// A child word of node i: 0 or 1, or one from its end on.
+fn bad_child(i: u32, word: u32) -> bool
     ensures { λ r. ⌜ r ≡ badChild i word ⌝ }
 {
     if word < 2 {
         return true;
     }
-    if word % 4 < 2 {
-        return GREATEST < word / 4;
-    }
-    i <= (word / 4) as usize
+    child_end(i, word) <= word as u64
 }
 
 // The third child: a full node has one, a half node has 0.
-fn bad_third(kind: u32, i: usize, word: u32) -> bool
+fn bad_third(kind: u32, i: u32, word: u32) -> bool
     ensures { λ r. ⌜ r ≡ badThird kind i word ⌝ }
 {
     if kind == 2 {
@@ -44,7 +52,7 @@ fn known_kind(kind: u32) -> bool
 }
 
 // The words of node i's record.
-fn bad_record(i: usize, kind: u32, a: u32, b: u32, c: u32, sum: u32, carry: u32) -> bool
+fn bad_record(i: u32, kind: u32, a: u32, b: u32, c: u32, sum: u32, carry: u32) -> bool
     ensures { λ r. ⌜ r ≡ badRecord i kind a b c sum carry ⌝ }
 {
     if !known_kind(kind) {
@@ -65,11 +73,11 @@ fn bad_record(i: usize, kind: u32, a: u32, b: u32, c: u32, sum: u32, carry: u32)
     GREATEST < carry
 }
 
-fn bad_node(table: &[u32], i: usize) -> bool
+fn bad_node(table: &[u32], i: u32) -> bool
     requires { ⌜ 8 * i + 7 < length (now table) ⌝ }
     ensures { λ r. ⌜ r ≡ badNode (now (table .entry)) i ⌝ }
 {
-    let p = 8 * i;
+    let p = 8 * (i as usize);
     bad_record(
         i,
         table[p],
@@ -90,7 +98,7 @@ pub fn nodes_damaged(n: u32, table: &[u32]) -> bool
         return true;
     }
     let mut i = 0;
-    while i < m {
+    while i < n {
         if bad_node(table, i) {
             return true;
         }

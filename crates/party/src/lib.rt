@@ -253,7 +253,7 @@ pub fn step(a: Adding, t: Term, i: usize) -> Adding
     ensures { λ r. ⌜ r ≡ stepOf a t i ⌝ }
 {
     let mut new = a;
-    if a.bad {
+    if new.bad {
         return new;
     }
     if bad_term(a.first, t) {
@@ -261,7 +261,7 @@ pub fn step(a: Adding, t: Term, i: usize) -> Adding
         new.place = i;
         return new;
     }
-    if 4294967295 < a.sum {
+    if 4294967295 < new.sum {
         return new;
     }
     let weight = t.weight;

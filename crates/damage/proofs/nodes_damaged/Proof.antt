@@ -10,10 +10,10 @@ use Rattle.damage.proofs.nodes_damaged.Statement.{statement}
 use Rattle.damage.proofs.nodes_damaged.Tie as tie
 
 abbrev Inv-loop : tie.InvT-loop
-Inv-loop n table m i₀ i = (i ≤ m) × (below (badNode table) i ≡ false)
+Inv-loop n table m i₀ i = (i ≤ n) × (below (badNode table) i ≡ false)
 
 abbrev μ-loop : tie.MeasureT-loop
-μ-loop n table m i₀ i = m - i
+μ-loop n table m i₀ i = n - i
 
 mul-if1 : tie.Need-mul-if1 Inv-loop μ-loop
 mul-if1 c = search needs
