@@ -3,4 +3,5 @@ pub mod Bools
 pub mod Words
 pub mod Implications
 pub mod Reifications
+pub mod Compare
 pub mod Starred
