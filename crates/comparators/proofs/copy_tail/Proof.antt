@@ -17,7 +17,7 @@ abbrev μ-loop : tie.MeasureT-loop
 μ-loop clauses₀ at tail i₀ clauses i = length tail - i
 
 loop-holds : tie.Need-loop-holds Inv-loop μ-loop
-loop-holds c = 
+loop-holds c =
     let s = c .args in
     let e : s .at + 0 ≡ s .at = omega arith in
     (omega arith, refl, ap (λ (k : ℕ). sets (s .clauses .now) k (s .tail .now)) e)
@@ -44,7 +44,7 @@ loop-less : tie.Need-loop-less Inv-loop μ-loop
 loop-less c = search needs
 
 loop-again : tie.Need-loop-again Inv-loop μ-loop
-loop-again c = 
+loop-again c =
     let l = c .before .before in
     let s = l .before .args in (
       omega arith,

@@ -18,7 +18,7 @@ power-requires : tie.Need-power-requires
 power-requires c κs = search needs
 
 returns : tie.Need-returns
-returns c = 
+returns c =
     let s = c .before .before .before in
     λ os b e h. let k = length-take-le (s .args .len) os h in
     need-unit (take (s .args .len) os) (s .args .len) (s .args .r) _ k (λ d. c .before .before .next-of .ensures (take (s .args .len) os) d (omega arith)) (c .if1 .taken ∙ c .before .power .ensures) b
@@ -28,7 +28,7 @@ need-of-requires c κs = search needs
 
 returns-2 : tie.Need-returns-2
 unfolding wants
-returns-2 c = 
+returns-2 c =
     let s = c .before .before .before .before in
     λ os b e h. let k = length-take-le (s .args .len) os h in
     need-rows (take (s .args .len) os) (s .args .len) (s .args .r) _ k (λ d. c .before .before .before .next-of .ensures (take (s .args .len) os) d (omega arith)) _ (λ z. c .before .if1 .left (z ∙ sym (c .before .before .power .ensures))) b (c .need-of .ensures onlyif os (neg b) refl e h)

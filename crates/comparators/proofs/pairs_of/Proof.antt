@@ -56,7 +56,7 @@ loop-less : tie.Need-loop-less Inv-loop μ-loop
 loop-less c = search needs
 
 loop-again : tie.Need-loop-again Inv-loop μ-loop
-loop-again c = 
+loop-again c =
     let l = c .before .before .before in
     pairing-more _ _ (l .loop .i) _ _ (search needs) (l .loop .inv) (c .before .before .loop-test .taken)
     (λ o e h. back (record { sfits = c .before .word-of .ok }) ∙ c .before .word-of .ensures o e h) (λ o e h. back (record { sfits = c .word-of2 .ok }) ∙ c .word-of2 .ensures o e h)

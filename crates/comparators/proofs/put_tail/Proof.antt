@@ -41,7 +41,7 @@ same-length : tie.Need-same-length
 same-length c = c .before .before .copy-tail .kept .0 ∙ simp length-set
 
 returns : tie.Need-returns
-returns c = 
+returns c =
     let t = c .before .before .before .before in
     let s = t .before .before .args in
     let n : length (s .first ∷ s .tail .now) ≡ length (s .tail .now) + 1 = omega arith in
@@ -52,7 +52,7 @@ raised-requires-2 : tie.Need-raised-requires-2
 raised-requires-2 c κs = search needs
 
 returns-2 : tie.Need-returns-2
-returns-2 c = 
+returns-2 c =
     let t = c .before in
     let s = t .before .before .args in
     let n : length (s .first ∷ s .tail .now) ≡ length (s .tail .now) + 1 = omega arith in
