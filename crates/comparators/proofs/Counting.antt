@@ -1,23 +1,25 @@
 -- What the clauses take, one bit a turn: the words and clauses that are begun, with those that are to come, give the whole. Assumes nothing.
-use mathlib.Core.Path.{_≡_, refl, sym, ap, ap₂, _∙_}
+use mathlib.Core.Path.{_≡_, refl, sym, ap₂, _∙_}
+use mathlib.Core.Bool.{Bool, true, false}
 use mathlib.Core.List.{List, [], _∷_, _++_}
 use mathlib.Core.Option.{Option, none, some}
-use Prim.Native.Nat.{ℕ, zero, suc, _≤_, _<_, _+_, _*_, _/_, _%_, _^_, max}
+use Prim.Native.Nat.{ℕ, suc, _≤_, _<_, _+_, _*_, _/_, _%_}
 use native.Mathlib.Nat.{mul-suc, suc-mul}
 use native.Mathlib.Omega.{arith}
 use native.Mathlib.Numerals.{add-one}
-use borrow.Author.Tests.{eq-eqb, ne-eqb}
+use borrow.Author.Tests.{eqb-true, eqb-false}
+use lib.Dec.{eqb}
 use lib.ListN.{length, getD, take, drop, length-append, drop-of-length-le}
 use lib.Seq.{drop-cons, getD-take, length-take-le}
 use Rattle.model.specs.Logic.{Lit, pL, nL, neg}
 use Rattle.model.specs.Words.{clauseWords, flat}
 use Rattle.model.specs.Signs.{Dir, iff, onlyif}
-use Rattle.model.specs.Compare.{Outs, ahead, above, higher, begins, clauseOf, compareRows, comparator}
+use Rattle.model.specs.Compare.{Outs, ahead, higher, clauseOf, compareRows}
 use Rattle.comparators.specs.declared.Need.{Need}
 use Rattle.comparators.specs.Codes.{codeOf, codesOf}
-use Rattle.comparators.specs.Rows.{wants, sizeOf, onlyFrom}
+use Rattle.comparators.specs.Rows.{wants, sizeOf}
 use Rattle.comparators.proofs.Codings.{code-there}
-use Rattle.comparators.proofs.Walks.{given, above-some, clause-none, compare-none, compare-skip}
+use Rattle.comparators.proofs.Walks.{given, above-some, begins-not, begins-there, begins-none, counts, counts-not}
 
 abbrev need : ℕ → ℕ → Need
 need w n = record { words = w; clauses = n }
@@ -58,28 +60,17 @@ module _ (δ : Dir) (os : Outs) (r w n : ℕ) (b : Lit) where
   abbrev rest : List (List Lit)
   rest = compareRows δ os (r / 2) b
 
-  pub tally-skip : (l : Lit) → (r % 2 ≡ wants δ → ⊥)
+  tally-skip : (l : Lit) → (r % 2 ≡ wants δ → ⊥)
       → tally (higher (some l ∷ os) r) w n (compareRows δ (some l ∷ os) r b) ≡ tally (higher os (r / 2)) (w + n) n (compareRows δ os (r / 2) b)
-  tally-skip l h =
-      rw (compare-skip δ l os r b h, above-some (r % 2) l (higher os (r / 2))) (go (higher os (r / 2)))
+  tally-skip l h = rw (begins-not δ (r % 2) l (omega arith) h, above-some (r % 2) l (higher os (r / 2))) (go (higher os (r / 2)))
     where
-      go : (t : Option (List Lit)) → tally (ahead (given (r % 2) l) t) w n (rest) ≡ tally t (w + n) n rest
+      go : (t : Option (List Lit)) → tally (ahead (given (r % 2) l) t) w n rest ≡ tally t (w + n) n rest
       go none = refl
       go (some ls) = ap₂ need (omega (arith, times-more n (length ls))) refl
 
-  begun : (l : Lit) → r % 2 ≡ wants δ → (y : Lit) × (begins δ (r % 2) (some l) ≡ some (y ∷ []))
-  unfolding wants
-  begun l e = go δ e
-    where
-      go : (γ : Dir) → r % 2 ≡ wants γ → (y : Lit) × (begins γ (r % 2) (some l) ≡ some (y ∷ []))
-      go iff z = (neg l, rw z)
-      go onlyif z = (l, rw z)
-
-  pub tally-begin : (l : Lit) → r % 2 ≡ wants δ
+  tally-begin : (l : Lit) → r % 2 ≡ wants δ
       → tally (higher (some l ∷ os) r) w n (compareRows δ (some l ∷ os) r b) ≡ tally (higher os (r / 2)) (w + (n + 1)) (n + 1) (compareRows δ os (r / 2) b)
-  tally-begin l e =
-      let y = begun l e in
-      rw (y .1, above-some (r % 2) l (higher os (r / 2))) (go (y .0) (higher os (r / 2)))
+  tally-begin l e = rw (begins-there δ (r % 2) l e, above-some (r % 2) l (higher os (r / 2))) (go (neg (given (r % 2) l)) (higher os (r / 2)))
     where
       go : (y : Lit) (t : Option (List Lit))
           → tally (ahead (given (r % 2) l) t) w n (clauseOf (some (y ∷ [])) t b ++ rest) ≡ tally t (w + (n + 1)) (n + 1) rest
@@ -89,10 +80,10 @@ module _ (δ : Dir) (os : Outs) (r w n : ℕ) (b : Lit) where
           (omega (arith, times-more n (length ls), more-times n (length ls + 2), more (y ∷ (ls ++ (b ∷ []))) rest (length ls + 2) (omega (arith, longer ls b))))
           (omega arith)
 
-  pub tally-absent : r % 2 ≡ 0 → tally (higher (none ∷ os) r) w n (compareRows δ (none ∷ os) r b) ≡ tally (higher os (r / 2)) w n (compareRows δ os (r / 2) b)
-  tally-absent e = rw (compare-none δ os r b e, e)
+  tally-absent : r % 2 ≡ 0 → tally (higher (none ∷ os) r) w n (compareRows δ (none ∷ os) r b) ≡ tally (higher os (r / 2)) w n (compareRows δ os (r / 2) b)
+  tally-absent e = rw (e, begins-none δ)
 
-pub tally-shut : (δ : Dir) (os : Outs) (r w n : ℕ) (b : Lit) → r % 2 ≡ 1
+tally-shut : (δ : Dir) (os : Outs) (r w n : ℕ) (b : Lit) → r % 2 ≡ 1
     → tally (higher (none ∷ os) r) w n (compareRows δ (none ∷ os) r b) ≡ tally (higher os (r / 2)) 0 (wants δ) (compareRows δ os (r / 2) b)
 unfolding wants sizeOf
 tally-shut iff os r w n b e = rw e (sym (tally-none (higher os (r / 2)) (compareRows iff os (r / 2) b)))
@@ -145,15 +136,27 @@ module _ (δ : Dir) (os : Outs) (len : ℕ) (cs : List ℕ) (codes : Coding os l
   on : (c ≡ 0 → ⊥) → (l : Lit) × (getD os j none ≡ some l)
   on h = code-there-is (getD os j none) (λ e. h (code ∙ e))
 
-  pub counting-begin : (c ≡ 0 → ⊥) → left % 2 ≡ want → Counting δ os r b (w + (n + 1)) (n + 1) (left / 2) (j + 1)
+  counting-begin : (c ≡ 0 → ⊥) → left % 2 ≡ want → Counting δ os r b (w + (n + 1)) (n + 1) (left / 2) (j + 1)
   counting-begin h e =
       let o = on h in
       sym (tally-begin δ (drop (j + 1) os) left w n b (o .0) (e ∙ wanted)) ∙ first (some (o .0)) (o .1)
 
-  pub counting-skip : (c ≡ 0 → ⊥) → (left % 2 ≡ want → ⊥) → Counting δ os r b (w + n) n (left / 2) (j + 1)
+  counting-skip : (c ≡ 0 → ⊥) → (left % 2 ≡ want → ⊥) → Counting δ os r b (w + n) n (left / 2) (j + 1)
   counting-skip h e =
       let o = on h in
       sym (tally-skip δ (drop (j + 1) os) left w n b (o .0) (λ z. e (z ∙ sym wanted))) ∙ first (some (o .0)) (o .1)
+
+  pub counting-there : want < 2 → (c ≡ 0 → ⊥)
+      → Counting δ os r b (w + (n + (left % 2 + want + 1) % 2)) (n + (left % 2 + want + 1) % 2) (left / 2) (j + 1)
+  counting-there small h = go (eqb (left % 2) want) refl
+    where
+      go : (t : Bool) → eqb (left % 2) want ≡ t → Counting δ os r b (w + (n + (left % 2 + want + 1) % 2)) (n + (left % 2 + want + 1) % 2) (left / 2) (j + 1)
+      go true e =
+          let z : left % 2 ≡ want = eqb-true (left % 2) want e in
+          rw (counts (left % 2) want (omega arith) small z) (counting-begin h z)
+      go false e =
+          let z : n + 0 ≡ n = omega arith in
+          rw (counts-not (left % 2) want (omega arith) small (eqb-false (left % 2) want e), z) (counting-skip h (eqb-false (left % 2) want e))
 
   pub counting-absent : c ≡ 0 → (left % 2 ≡ 1 → ⊥) → Counting δ os r b w n (left / 2) (j + 1)
   counting-absent h e =

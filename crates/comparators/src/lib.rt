@@ -1,18 +1,19 @@
 // The comparators' clauses, and how much they take. Once a call the outputs' connections become codes, and the codes pairs of words; for each
-// bound the words of its bits stand in a row, and each clause is its first word and the row from a place on: a tail.
+// bound the words of its bits stand in a row, and each clause is a tail of it: a word of the row negated, and the row behind it.
 ghost use mathlib.Core.Path.{_≡_};
-ghost use mathlib.Core.List.{[], _∷_, _++_};
+ghost use mathlib.Core.List.{_∷_};
 ghost use mathlib.Core.Option.{Option, some};
-ghost use Prim.Native.Nat.{_+_, _≤_, _<_, _^_};
-ghost use lib.ListN.{length, getD, drop, take};
+ghost use Prim.Native.Nat.{ℕ, _+_, _≤_, _<_, _^_};
+ghost use lib.ListN.{length, getD, take};
 ghost use lib.Seq.{sets};
 ghost use lib.Dec.{leb};
 ghost use Rattle.model.specs.Logic.{Lit, pL, nL};
-ghost use Rattle.model.specs.Words.{word, buffer, lay, putEach};
+ghost use Rattle.model.specs.Words.{word, negated, buffer, lay, putEach};
 ghost use Rattle.model.specs.Signs.{Dir, iff, onlyif};
-ghost use Rattle.model.specs.Compare.{Outs, outLit, outLits, higher, clauseOf, compareRows, comparator};
+ghost use Rattle.model.specs.Compare.{Outs, outLit, outLits, compareRows, comparator};
 ghost use Rattle.comparators.specs.Codes.{codeOf, codesOf, pairWord, pairsOf};
-ghost use Rattle.comparators.specs.Rows.{sink, wants, sizeOf, onlyFrom, Paired, Standing, opens, Rowed};
+ghost use Rattle.comparators.specs.Rows.{sink, wants, sizeOf, onlyFrom, layTails, Paired, Rowed};
+use literal::Literal;
 
 // What stands in the buffer after a comparator: the fill, and the count of clauses.
 pub struct Filled {
@@ -26,11 +27,11 @@ pub struct Need {
     pub clauses: usize,
 }
 
-// The row of a bound: how many words it has, the lowest output that takes part, and the bound from there up.
-pub struct Row {
+// The row of a bound: how many words it has, the lowest output that takes part, and how many clauses begin in it.
+struct Row {
     pub len: usize,
     pub lowest: usize,
-    pub rest: u64,
+    pub begun: usize,
 }
 
 // In a pair: there is no output. No literal's word is the least number.
@@ -135,14 +136,23 @@ pub fn pairs_of(codes: [u32; 48]) -> [i32; 96]
     pairs
 }
 
-// The words of the bits of r, the absent ones left out, then the bound's word and 0. A 1 whose output is absent shuts out all below it.
-fn row_of(row: &mut [i32], pairs: &[i32; 96], len: usize, r: u64, own: i32) -> Row
-    requires { ⌜ (len ≤ 48) × (50 ≤ length (now row)) ⌝ }
-    ensures { λ s. ⌜ ((2 ≤ s .len) × (s .len ≤ 50) × (s .lowest ≤ len)) × ((os : Outs) → Paired os len (now (pairs .entry)) → Rowed os r own (now (row .exit)) s) ⌝ }
+// The words of the bits of r, the absent ones left out, then the bound's word and 0; and the places in the row where a clause begins, which are
+// those of the wanted bits: 0 for if, 1 for only-if. A 1 whose output is absent shuts out all below it.
+fn row_of(
+    row: &mut [i32],
+    starts: &mut [u8],
+    pairs: &[i32; 96],
+    len: usize,
+    want: usize,
+    r: u64,
+    own: i32,
+) -> Row
+    requires { ⌜ (len ≤ 48) × (want < 2) × (50 ≤ length (now row)) × (48 ≤ length (now starts)) ⌝ }
+    ensures { λ s. ⌜ ((2 ≤ s .len) × (s .len ≤ 50) × (s .begun ≤ 48)) × ((δ : Dir) (os : Outs) (b : Lit) → want ≡ wants δ → Paired os len (now (pairs .entry)) → own ≡ word b → Rowed δ os r b (take (s .len) (now (row .exit))) (take (s .begun) (now (starts .exit))) (s .lowest)) ⌝ }
 {
     let mut q: usize = 0;
+    let mut k: usize = 0;
     let mut lowest: usize = 0;
-    let mut low = r;
     let mut left = r;
     let mut j: usize = 0;
     while j < len {
@@ -152,11 +162,13 @@ fn row_of(row: &mut [i32], pairs: &[i32; 96], len: usize, r: u64, own: i32) -> R
         j += 1;
         if w != ABSENT {
             row[q] = w;
+            starts[k] = q as u8;
             q += 1;
+            k += (one + want + 1) % 2;
         } else if one == 1 {
             q = 0;
+            k = 0;
             lowest = j;
-            low = left;
         }
     }
     row[q] = own;
@@ -164,7 +176,7 @@ fn row_of(row: &mut [i32], pairs: &[i32; 96], len: usize, r: u64, own: i32) -> R
     Row {
         len: q + 2,
         lowest: lowest,
-        rest: low,
+        begun: k,
     }
 }
 
@@ -204,49 +216,34 @@ fn put_tail(clauses: &mut [i32], first: i32, tail: &[i32], fill: usize) -> usize
     clauses::raised(fill, n)
 }
 
-// The clauses that begin at the bits of the row that are wanted: 0 for if, 1 for only-if.
-fn put_tails(
-    clauses: &mut [i32],
-    row: &[i32],
-    pairs: &[i32; 96],
-    len: usize,
-    want: usize,
-    lowest: usize,
-    rest: u64,
-    fill: usize,
-    count: usize,
-) -> Filled
-    requires { ⌜ (len ≤ 48) × (want < 2) × (lowest ≤ len) × (length (now row) ≤ 64) ⌝ }
-    ensures { λ s. ⌜ ((δ : Dir) (os : Outs) (b : Lit) → want ≡ wants δ → Paired os len (now (pairs .entry)) → Standing (drop lowest os) rest (word b) (now (row .entry)) → sink (now (clauses .exit)) (s .fill) (s .clauses) ≡ putEach (compareRows δ (drop lowest os) rest b) (sink (now (clauses .entry)) fill count)) ⌝ }
+// The negated literal's word.
+fn turned(word: i32) -> i32
+    ensures { λ r. ⌜ r ≡ negated word ⌝ }
 {
-    let mut at = fill;
-    let mut n = count;
-    let mut p: usize = 0;
-    let mut left = rest;
-    let mut i = lowest;
-    while i < len {
-        let first = pairs[i * 2 + (1 - want)];
-        let bit = (left % 2) as usize;
-        left = left / 2;
-        i += 1;
-        if first != ABSENT {
-            p += 1;
-            if bit == want {
-                if p <= row.len() {
-                    at = put_tail(clauses, first, &row[p..], at);
-                    n = clauses::raised(n, 1);
-                }
-            }
-        }
-    }
-    Filled {
-        fill: at,
-        clauses: n,
-    }
+    let l = Literal { word }.negated();
+    l.word
 }
 
-// If, for r: the clauses that say that a value of the outputs above r makes the bound's literal true. The row is scratch. Document 01 has
-// at most 48 outputs.
+// The clauses that begin at these places of the row: the literal there negated, and the row behind it.
+fn put_tails(clauses: &mut [i32], row: &[i32], starts: &[u8], fill: usize) -> usize
+    requires { ⌜ length (now row) ≤ 64 ⌝ }
+    ensures { λ r. ⌜ buffer r (now (clauses .exit)) ≡ layTails (now (row .entry)) (now (starts .entry)) (buffer fill (now (clauses .entry))) ⌝ }
+{
+    let mut at = fill;
+    let mut k: usize = 0;
+    while k < starts.len() {
+        let q = starts[k] as usize;
+        k += 1;
+        if q < row.len() {
+            let w = turned(row[q]);
+            at = put_tail(clauses, w, &row[q + 1..], at);
+        }
+    }
+    at
+}
+
+// If, for r: the clauses that say that a value of the outputs above r makes the bound's literal true. The row is scratch, of 50 words or more.
+// Document 01 has at most 48 outputs.
 pub fn comparator_if(
     clauses: &mut [i32],
     row: &mut [i32],
@@ -261,19 +258,15 @@ pub fn comparator_if(
     ensures { λ s. ⌜ ((os : Outs) → now (pairs .entry) ≡ pairsOf os → len ≤ length os → sink (now (clauses .exit)) (s .fill) (s .clauses) ≡ putEach (comparator iff (take len os) r (pL own)) (sink (now (clauses .entry)) fill count)) ⌝ }
 {
     let w = plain_word(own);
-    let s = row_of(row, pairs, len, r, w);
+    let mut starts = [0u8; 48];
+    let s = row_of(row, &mut starts, pairs, len, 0, r, w);
     let n = s.len;
-    put_tails(
-        clauses,
-        &row[0..n],
-        pairs,
-        len,
-        0,
-        s.lowest,
-        s.rest,
-        fill,
-        count,
-    )
+    let m = s.begun;
+    let f = put_tails(clauses, &row[0..n], &starts[0..m], fill);
+    Filled {
+        fill: f,
+        clauses: clauses::raised(count, m),
+    }
 }
 
 // r + 1. At the greatest number, whose 1 is above all outputs, 0 has the same bits.
@@ -294,26 +287,32 @@ fn power(len: usize) -> u64
     1 << len
 }
 
-// The clauses of a row for only-if: where a 1 has no output, the whole row is one of them.
+// The clauses of a row for only-if: where a 1 has no output, the whole row is the first of them.
 fn put_ones(
     clauses: &mut [i32],
     row: &[i32],
-    pairs: &[i32; 96],
-    len: usize,
+    starts: &[u8],
     lowest: usize,
-    rest: u64,
     fill: usize,
     count: usize,
 ) -> Filled
-    requires { ⌜ (len ≤ 48) × (lowest ≤ len) × (2 ≤ length (now row)) × (length (now row) ≤ 64) ⌝ }
-    ensures { λ s. ⌜ ((os : Outs) (b : Lit) → Paired os len (now (pairs .entry)) → Standing (drop lowest os) rest (word b) (now (row .entry)) → sink (now (clauses .exit)) (s .fill) (s .clauses) ≡ putEach (clauseOf (opens onlyif lowest) (higher (drop lowest os) rest) b ++ compareRows onlyif (drop lowest os) rest b) (sink (now (clauses .entry)) fill count)) ⌝ }
+    requires { ⌜ (2 ≤ length (now row)) × (length (now row) ≤ 64) × (length (now starts) ≤ 48) ⌝ }
+    ensures { λ s. ⌜ ((os : Outs) (r : ℕ) (b : Lit) → Rowed onlyif os r b (now (row .entry)) (now (starts .entry)) lowest → sink (now (clauses .exit)) (s .fill) (s .clauses) ≡ putEach (compareRows onlyif os r b) (sink (now (clauses .entry)) fill count)) ⌝ }
 {
+    let m = starts.len();
     if 0 < lowest {
         let f = put_tail(clauses, row[0], &row[1..], fill);
-        let n = clauses::raised(count, 1);
-        return put_tails(clauses, row, pairs, len, 1, lowest, rest, f, n);
+        let g = put_tails(clauses, row, starts, f);
+        return Filled {
+            fill: g,
+            clauses: clauses::raised(count, m + 1),
+        };
     }
-    put_tails(clauses, row, pairs, len, 1, lowest, rest, fill, count)
+    let g = put_tails(clauses, row, starts, fill);
+    Filled {
+        fill: g,
+        clauses: clauses::raised(count, m),
+    }
 }
 
 // Only-if, for r: the clauses that say that the bound's literal makes the value of the outputs lie above r.
@@ -341,18 +340,11 @@ pub fn comparator_only_if(
             clauses: n,
         };
     }
-    let s = row_of(row, pairs, len, q, w);
+    let mut starts = [0u8; 48];
+    let s = row_of(row, &mut starts, pairs, len, 1, q, w);
     let n = s.len;
-    put_ones(
-        clauses,
-        &row[0..n],
-        pairs,
-        len,
-        s.lowest,
-        s.rest,
-        fill,
-        count,
-    )
+    let m = s.begun;
+    put_ones(clauses, &row[0..n], &starts[0..m], s.lowest, fill, count)
 }
 
 // What the clauses that begin at the wanted bits take, in one pass: a bit whose output is present gives a word to each clause begun so far.
@@ -365,18 +357,14 @@ fn need_of(codes: &[u32; 48], len: usize, want: usize, r: u64) -> Need
     let mut left = r;
     let mut j: usize = 0;
     while j < len {
-        let one = (left % 2) as usize;
+        let bit = (left % 2) as usize;
         let code = codes[j];
         left = left / 2;
         j += 1;
         if code != 0 {
-            if one == want {
-                n += 1;
-                w = w + n;
-            } else {
-                w = w + n;
-            }
-        } else if one == 1 {
+            n += (bit + want + 1) % 2;
+            w = w + n;
+        } else if bit == 1 {
             w = 0;
             n = want;
         }

@@ -7,9 +7,9 @@ use lib.Seq.{length-take-le}
 use Rattle.literal.proofs.Signed.{back}
 use Rattle.model.specs.Logic.{nL}
 use Rattle.model.specs.Signs.{onlyif}
+use Rattle.comparators.specs.Rows.{wants}
 use Rattle.comparators.proofs.Codings.{paired}
-use Rattle.comparators.proofs.Walks.{to-place}
-use Rattle.comparators.proofs.Comparing.{only-unit, only-if-rows}
+use Rattle.comparators.proofs.Comparing.{rowed-lent, only-unit, only-rows}
 use Rattle.comparators.proofs.comparator_only_if.Statement.{statement}
 use Rattle.comparators.proofs.comparator_only_if.Tie as tie
 
@@ -41,6 +41,9 @@ returns c =
     only-unit (take (a .len) os) (a .len) (a .r) _ n (λ d. c .before .before .before .before .before .before .before .before .next-of .ensures (take (a .len) os) d (omega arith)) (a .own) _ (a .clauses .now) _ (a .fill) (a .count) _ _
     (c .before .before .before .before .before .if1 .taken ∙ c .before .before .before .before .before .before .power .ensures) (back (record { sfits = c .before .before .before .before .before .before .before .minus-word .ok }) ∙ c .before .before .before .before .before .before .before .minus-word .ensures) (c .before .before .put-tail .ensures) (c .raised .ensures)
 
+slice-aggregate-row-of : tie.Need-slice-aggregate-row-of
+slice-aggregate-row-of c = search needs
+
 row-of-requires : tie.Need-row-of-requires
 row-of-requires c κs = search needs
 
@@ -53,6 +56,15 @@ part-put-ones-start c = search needs
 part-put-ones-end : tie.Need-part-put-ones-end
 part-put-ones-end c = search needs
 
+sub-put-ones-2 : tie.Need-sub-put-ones-2
+sub-put-ones-2 c = search needs
+
+part-put-ones-start-2 : tie.Need-part-put-ones-start-2
+part-put-ones-start-2 c = search needs
+
+part-put-ones-end-2 : tie.Need-part-put-ones-end-2
+part-put-ones-end-2 c = search needs
+
 put-ones-requires : tie.Need-put-ones-requires
 put-ones-requires c κs = search needs
 
@@ -63,13 +75,15 @@ same-length-3 : tie.Need-same-length-3
 same-length-3 c = search needs
 
 returns-2 : tie.Need-returns-2
+unfolding wants
 returns-2 c =
-    let a = c .before .before .before .before .before .before .before .before .before .before .before .before .args in
+    let a = c .before .before .before .before .before .before .before .before .before .before .before .before .before .before .before .before .args in
+    let s = c .before .before .before .before .before .before .before .before .before .row-of in
     λ os e h. let n = length-take-le (a .len) os h in
-    let k = paired os (a .len) (a .pairs .now) e h in
-    only-if-rows (take (a .len) os) (a .len) (a .r) _ n (λ d. c .before .before .before .before .before .before .before .before .before .before .before .next-of .ensures (take (a .len) os) d (omega arith))
-    _ _ _ _ (c .before .before .before .before .before .before .row-of .ensures .1 (take (a .len) os) k) (to-place (c .before .before .before .before .before .before .row-of .last .0) (c .before .before .before .before .before .before .row-of .result .len)) (a .own) _ _
-    (λ z. c .before .before .before .before .before .before .before .before .if1 .left (z ∙ sym (c .before .before .before .before .before .before .before .before .before .power .ensures))) (back (record { sfits = c .before .before .before .before .before .before .before .before .before .before .minus-word .ok }) ∙ c .before .before .before .before .before .before .before .before .before .before .minus-word .ensures) (λ t. c .before .put-ones .ensures (take (a .len) os) (nL (a .own)) k t)
+    only-rows (take (a .len) os) (a .len) (a .r) _ n (λ d. c .before .before .before .before .before .before .before .before .before .before .before .before .before .before .before .next-of .ensures (take (a .len) os) d (omega (arith, c .before .before .before .before .before .before .before .before .before .before .before .before .before .before .before .before .pre .0))) (a .own) _ _
+    (λ z. c .before .before .before .before .before .before .before .before .before .before .before .before .if1 .left (z ∙ sym (c .before .before .before .before .before .before .before .before .before .before .before .before .before .power .ensures)))
+    (c .before .put-ones .ensures (take (a .len) os) _ (nL (a .own)) (rowed-lent onlyif (take (a .len) os) _ (nL (a .own)) (s .last .0) (s .last .1 .0) (s .result .len) (s .result .begun) (s .result .lowest)
+    (s .ensures .1 onlyif (take (a .len) os) (nL (a .own)) refl (paired os (a .len) (a .pairs .now) e h) (back (record { sfits = c .before .before .before .before .before .before .before .before .before .before .before .before .before .before .minus-word .ok }) ∙ c .before .before .before .before .before .before .before .before .before .before .before .before .before .before .minus-word .ensures))))
 
 pub comparator-only-if-spec : {M : Type 1} → statement M
 comparator-only-if-spec =
@@ -83,10 +97,14 @@ comparator-only-if-spec =
     raised-requires
     same-length
     returns
+    slice-aggregate-row-of
     row-of-requires
     sub-put-ones
     part-put-ones-start
     part-put-ones-end
+    sub-put-ones-2
+    part-put-ones-start-2
+    part-put-ones-end-2
     put-ones-requires
     same-length-2
     same-length-3

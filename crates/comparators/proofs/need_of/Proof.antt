@@ -3,12 +3,12 @@ use borrow.Author.Needs.{needs}
 use mathlib.Core.Path.{_≡_, refl}
 use Prim.Native.Nat.{_≤_, _-_, _*_}
 use native.Mathlib.Omega.{arith}
-use lib.ListN.{length, take}
+use lib.ListN.{take}
 use Rattle.model.specs.Logic.{Lit}
 use Rattle.model.specs.Signs.{Dir}
 use Rattle.model.specs.Compare.{Outs}
 use Rattle.comparators.specs.Rows.{wants}
-use Rattle.comparators.proofs.Counting.{Coding, coding, Counting, counting-none, counting-begin, counting-skip, counting-absent, counting-shut, counting-all}
+use Rattle.comparators.proofs.Counting.{Coding, coding, Counting, counting-none, counting-there, counting-absent, counting-shut, counting-all}
 use Rattle.comparators.proofs.need_of.Statement.{statement}
 use Rattle.comparators.proofs.need_of.Tie as tie
 
@@ -33,6 +33,12 @@ add-j c = search needs
 add-n : tie.Need-add-n Inv-loop μ-loop
 add-n c = search needs
 
+add-n-2 : tie.Need-add-n-2 Inv-loop μ-loop
+add-n-2 c = search needs
+
+add-n-3 : tie.Need-add-n-3 Inv-loop μ-loop
+add-n-3 c = search needs
+
 add-w : tie.Need-add-w Inv-loop μ-loop
 add-w c = search needs
 
@@ -41,14 +47,11 @@ loop-less c = search needs
 
 loop-again : tie.Need-loop-again Inv-loop μ-loop
 loop-again c =
-    let l = c .before .before .before .before in
+    let l = c .before .before .before in
     let s = l .before .args in (
       (omega arith, omega arith, omega arith),
-      λ δ os b u k. counting-begin δ os (s .len) (s .codes .now) k (s .want) u (s .r) b (l .loop .w) (l .loop .n) (l .loop .left) (l .loop .j) (l .loop .inv .1 δ os b u k) (c .before .before .before .loop-test .taken) _ refl (c .before .if1 .taken) (c .if2 .taken),
+      λ δ os b u k. counting-there δ os (s .len) (s .codes .now) k (s .want) u (s .r) b (l .loop .w) (l .loop .n) (l .loop .left) (l .loop .j) (l .loop .inv .1 δ os b u k) (c .before .before .loop-test .taken) _ refl (omega arith) (c .if1 .taken),
     )
-
-add-w-2 : tie.Need-add-w-2 Inv-loop μ-loop
-add-w-2 c = search needs
 
 loop-less-2 : tie.Need-loop-less-2 Inv-loop μ-loop
 loop-less-2 c = search needs
@@ -58,7 +61,7 @@ loop-again-2 c =
     let l = c .before .before .before .before in
     let s = l .before .args in (
       (omega arith, omega arith, omega arith),
-      λ δ os b u k. counting-skip δ os (s .len) (s .codes .now) k (s .want) u (s .r) b (l .loop .w) (l .loop .n) (l .loop .left) (l .loop .j) (l .loop .inv .1 δ os b u k) (c .before .before .before .loop-test .taken) _ refl (c .before .if1 .taken) (c .if2 .left),
+      λ δ os b u k. counting-shut δ os (s .len) (s .codes .now) k (s .want) u (s .r) b (l .loop .w) (l .loop .n) (l .loop .left) (l .loop .j) (l .loop .inv .1 δ os b u k) (c .before .before .before .loop-test .taken) _ refl (c .before .if1 .left) (c .if2 .taken),
     )
 
 loop-less-3 : tie.Need-loop-less-3 Inv-loop μ-loop
@@ -69,31 +72,21 @@ loop-again-3 c =
     let l = c .before .before .before .before in
     let s = l .before .args in (
       (omega arith, omega arith, omega arith),
-      λ δ os b u k. counting-shut δ os (s .len) (s .codes .now) k (s .want) u (s .r) b (l .loop .w) (l .loop .n) (l .loop .left) (l .loop .j) (l .loop .inv .1 δ os b u k) (c .before .before .before .loop-test .taken) _ refl (c .before .if1 .left) (c .if3 .taken),
+      λ δ os b u k. counting-absent δ os (s .len) (s .codes .now) k (s .want) u (s .r) b (l .loop .w) (l .loop .n) (l .loop .left) (l .loop .j) (l .loop .inv .1 δ os b u k) (c .before .before .before .loop-test .taken) _ refl (c .before .if1 .left) (c .if2 .left),
     )
 
-loop-less-4 : tie.Need-loop-less-4 Inv-loop μ-loop
-loop-less-4 c = search needs
+mul-t21 : tie.Need-mul-t21 Inv-loop μ-loop
+mul-t21 c = search needs
 
-loop-again-4 : tie.Need-loop-again-4 Inv-loop μ-loop
-loop-again-4 c =
-    let l = c .before .before .before .before in
-    let s = l .before .args in (
-      (omega arith, omega arith, omega arith),
-      λ δ os b u k. counting-absent δ os (s .len) (s .codes .now) k (s .want) u (s .r) b (l .loop .w) (l .loop .n) (l .loop .left) (l .loop .j) (l .loop .inv .1 δ os b u k) (c .before .before .before .loop-test .taken) _ refl (c .before .if1 .left) (c .if3 .left),
-    )
-
-mul-t19 : tie.Need-mul-t19 Inv-loop μ-loop
-mul-t19 c = search needs
-
-add-t20 : tie.Need-add-t20 Inv-loop μ-loop
-add-t20 c = search needs
+add-t22 : tie.Need-add-t22 Inv-loop μ-loop
+add-t22 c = search needs
 
 returns : tie.Need-returns Inv-loop μ-loop
 returns c =
     let l = c .before in
     let s = l .before .args in
-    λ δ os b u e h. let k = coding os (s .len) (s .codes .now) e h in counting-all δ (take (s .len) os) (s .len) (s .r) b (l .loop .w) (l .loop .n) (l .loop .left) (l .loop .j) (l .loop .inv .1 δ (take (s .len) os) b u k) (k .long) (c .loop-test .left)
+    λ δ os b u e h. let k = coding os (s .len) (s .codes .now) e h in
+    counting-all δ (take (s .len) os) (s .len) (s .r) b (l .loop .w) (l .loop .n) (l .loop .left) (l .loop .j) (l .loop .inv .1 δ (take (s .len) os) b u k) (k .long) (c .loop-test .left)
 
 pub need-of-spec : {M : Type 1} → statement M
 need-of-spec =
@@ -106,16 +99,15 @@ need-of-spec =
     element-copy-out-code
     add-j
     add-n
+    add-n-2
+    add-n-3
     add-w
     loop-less
     loop-again
-    add-w-2
     loop-less-2
     loop-again-2
     loop-less-3
     loop-again-3
-    loop-less-4
-    loop-again-4
-    mul-t19
-    add-t20
+    mul-t21
+    add-t22
     returns)
