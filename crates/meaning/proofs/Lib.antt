@@ -3,7 +3,6 @@
 pub mod Words
 pub mod Implications
 pub mod Reifications
-pub mod Compare
 pub mod Starred
 pub mod Gates
 pub mod Ledger
