@@ -1,6 +1,6 @@
 -- The check of a constraint, on each way that the code takes. Assumes nothing.
 use mathlib.Core.Path.{_≡_, refl, sym, ap, ap₂, _∙_}
-use mathlib.Core.Bool.{Bool, true, false, cond, _&&_, and-eq-true-iff}
+use mathlib.Core.Bool.{Bool, true, false, cond, _&&_}
 use mathlib.Core.List.{List, [], _∷_}
 use Prim.Native.Nat.{ℕ, suc, _+_, _≤_, _<_}
 use native.Mathlib.Numerals.{add-one}
@@ -10,6 +10,7 @@ use lib.ListN.{length, drop, getD, drop-of-length-le}
 use lib.Seq.{drop-cons}
 use lib.IntN.{ℤ, pos}
 use borrow.Author.Tests.{le-leb, lt-leb, leb-true, eqb-true, eq-eqb, ne-eqb}
+use Rattle.model.proofs.Literals.{both}
 use Rattle.model.specs.Limits.{mostTerms, mostWeights}
 use Rattle.model.specs.Logic.{Term, term, total, isLit}
 use Rattle.model.specs.Words.{litOf, isLiteral}
@@ -108,12 +109,12 @@ good-parts z ws ls g =
     let ts = termsOf ws ls in
     let a = isLit (litOf z) in
     let b = leb (length ts) mostTerms in
-    let h = and-eq-true-iff (eqb (length ws) (length ls)) _ .0 g in
-    let k = and-eq-true-iff (a && b && goodTerms ts) (leb (total ts) mostWeights) .0 (h .1) in
-    let m = and-eq-true-iff (a && b) (goodTerms ts) .0 (k .0) in
+    let h = both (eqb (length ws) (length ls)) (goodConstraint (litOf z) ts) g in
+    let k = both (a && b && goodTerms ts) (leb (total ts) mostWeights) (h .1) in
+    let m = both (a && b) (goodTerms ts) (k .0) in
     record {
       same = sym (eqb-true (length ws) (length ls) (h .0));
-      fine = and-eq-true-iff a b .0 (m .0) .0;
+      fine = both a b (m .0) .0;
       terms = m .1;
       small = leb-true (total ts) mostWeights (k .1);
     }

@@ -11,6 +11,7 @@ use lib.ListN.{length, take, set, replicate, length-map, length-set, length-appe
 use lib.Seq.{append-snoc, take-suc-set}
 use borrow.Author.Tests.{lt-ltb, le-ltb, le-leb, lt-leb, ltb-true, ltb-false, eq-eqb}
 use Rattle.literal.specs.declared.Term.{Term}
+use Rattle.model.proofs.Literals.{by-test}
 use Rattle.model.specs.Limits.{mostWeights}
 use Rattle.model.specs.Logic as logic
 use Rattle.model.specs.Words.{litOf}
@@ -109,13 +110,7 @@ module _ (g : Gathered) (t : Term) (i : ℕ) where
 
   over-step : g .over ≡ true → stepOf g t i .over ≡ true
   unfolding stepOf
-  over-step h = go (ltb (g .count) 128)
-    where
-      go : (b : Bool) → cond {A = Gathered} b
-          (record { weights = set (g .weights) (g .count) (t .weight); literals = set (g .literals) (g .count) (t .literal); count = g .count + 1; over = g .over })
-          (record { weights = g .weights; literals = g .literals; count = g .count; over = true }) .over ≡ true
-      go true = h
-      go false = refl
+  over-step h = by-test (λ (r : Gathered). r .over ≡ true) (ltb (g .count) 128) (λ _. h) (λ _. refl)
 
 over-all : (ts : List Term) (g : Gathered) (i : ℕ) → g .over ≡ true → stepAll g ts i .over ≡ true
 unfolding stepAll

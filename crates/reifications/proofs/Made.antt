@@ -1,54 +1,44 @@
 -- A plan carried out is the model's reification: words against literals, and each row of the table. Assumes nothing.
 use mathlib.Core.Path.{_≡_, refl, sym, ap, ap₂, _∙_}
-use mathlib.Core.Bool.{Bool, true, false, cond, _&&_, and-eq-true-iff}
+use mathlib.Core.Bool.{Bool, true, false, cond, _&&_}
 use mathlib.Core.List.{List, [], _∷_, _++_, map, map-append}
-use Prim.Native.Nat.{ℕ, zero, suc, _+_, _*_, _-_, _≤_, _<_}
-use native.Mathlib.Nat.{mod-eq-of-lt}
+use Prim.Native.Nat.{ℕ, zero, suc, _+_, _*_, _-_, _≤_}
 use native.Mathlib.Omega.{arith}
 use lib.Dec.{leb, ltb, eqb, leb·zero}
-use lib.IntN.{ℤ, pos, negsuc, negℤ}
+use lib.IntN.{ℤ, pos, negsuc}
 use lib.ListN.{length, length-map}
 use lib.Seq.{sets}
 use lib.Signed.{leZ}
-use borrow.Author.Tests.{le-ltb, lt-leb, leb-true, leb-false, ltb-false, ne-eqb}
-use Rattle.model.specs.Limits.{greatest, inRange}
-use Rattle.model.specs.Logic.{Lit, neg, variable, isLit, Term, term, total}
+use borrow.Author.Tests.{le-ltb, lt-leb, leb-false, ltb-false, ne-eqb}
+use Rattle.clauses.specs.Parts.{turned, turnedWord}
+use Rattle.model.proofs.Literals.{both, litOf-word}
+use Rattle.model.specs.Logic.{Lit, neg, isLit, Term, term, total}
 use Rattle.model.specs.Words.{word, litOf, isLiteral, negated}
 use Rattle.model.specs.Replies as replies
 use Rattle.model.specs.Reifications.{Order, upper, lower, Bound, ordered, equality, Way, litImplies, impliesLit, termsOf, linear, negateTerm, unit, addedSum, made, goodTerms, goodConstraint, impossible, accepted, refused, Reified, reifiedTo, weightOf, wordOf, written, satisfiable, reified, reifiedLists}
 use Rattle.reifications.specs.declared.Order.the-variants as order
 use Rattle.reifications.specs.declared.plan.Plan.{Plan}
 use Rattle.reifications.specs.declared.plan.Plan.the-variants.{Bad, Unit, Terms}
-use Rattle.reifications.specs.Plans.{goodLists, isNegative, partOf, upperPlan, lowerPlan, planOf, plannedOf, flip, added, writtenLists, carriedOut}
+use Rattle.reifications.specs.Plans.{goodLists, isNegative, partOf, upperPlan, lowerPlan, planOf, plannedOf, added, writtenLists, carriedOut}
 use Rattle.reifications.specs.Read.{orderOf}
 use Rattle.reifications.proofs.Checks.{good-parts}
-
--- the word of a literal's word is that word
-in-range : (n : ℕ) → inRange n ≡ true → n < 0x8000_0000
-unfolding inRange
-in-range n h = omega (arith, leb-true n greatest (and-eq-true-iff (leb 1 n) _ .0 h .1))
-
-word-back : (z : ℤ) → isLiteral z ≡ true → word (litOf z) ≡ z
-unfolding isLiteral isLit litOf variable word
-word-back (pos n) h = ap pos (mod-eq-of-lt (in-range n h))
-word-back (negsuc n) h = ap (λ (m : ℕ). negℤ (pos m)) (mod-eq-of-lt (in-range (suc n) h))
 
 -- literals and terms as they are, or negated
 abbrev turn : Bool → Lit → Lit
 turn false l = l
 turn true l = neg l
 
-abbrev turned : Bool → List Term → List Term
-turned false ts = ts
-turned true ts = map negateTerm ts
+abbrev turnAll : Bool → List Term → List Term
+turnAll false ts = ts
+turnAll true ts = map negateTerm ts
 
-word-turn : (m : Bool) (z : ℤ) → isLiteral z ≡ true → word (turn m (litOf z)) ≡ flip m z
-unfolding flip negated
-word-turn false z h = word-back z h
+word-turn : (m : Bool) (z : ℤ) → isLiteral z ≡ true → word (turn m (litOf z)) ≡ turnedWord m z
+unfolding turnedWord negated
+word-turn false z h = litOf-word z h
 word-turn true z h = refl
 
 -- the lists of two lists' terms
-weights-back : (m : Bool) (ws : List ℕ) (ls : List ℤ) → length ls ≡ length ws → map weightOf (turned m (termsOf ws ls)) ≡ ws
+weights-back : (m : Bool) (ws : List ℕ) (ls : List ℤ) → length ls ≡ length ws → map weightOf (turnAll m (termsOf ws ls)) ≡ ws
 unfolding termsOf negateTerm
 weights-back false [] ls e = refl
 weights-back true [] ls e = refl
@@ -57,18 +47,18 @@ weights-back false (w ∷ ws) (l ∷ ls) e = ap (_∷_ w) (weights-back false ws
 weights-back true (w ∷ ws) (l ∷ ls) e = ap (_∷_ w) (weights-back true ws ls (omega (arith, e)))
 
 words-back : (m : Bool) (ws : List ℕ) (ls : List ℤ) → length ls ≡ length ws → goodTerms (termsOf ws ls) ≡ true
-    → map wordOf (turned m (termsOf ws ls)) ≡ map (flip m) ls
-unfolding termsOf negateTerm goodTerms isLiteral
+    → map wordOf (turnAll m (termsOf ws ls)) ≡ turned m ls
+unfolding turned termsOf negateTerm goodTerms isLiteral
 words-back false [] [] e g = refl
 words-back true [] [] e g = refl
 words-back m [] (l ∷ ls) e g = absurd (omega (arith, e))
 words-back m (w ∷ ws) [] e g = absurd (omega (arith, e))
 words-back false (w ∷ ws) (l ∷ ls) e g =
-    let h = and-eq-true-iff (leb 1 w && isLit (litOf l)) _ .0 g in
-    ap₂ _∷_ (word-turn false l (and-eq-true-iff (leb 1 w) _ .0 (h .0) .1)) (words-back false ws ls (omega (arith, e)) (h .1))
+    let h = both (leb 1 w && isLit (litOf l)) (goodTerms (termsOf ws ls)) g in
+    ap₂ _∷_ (word-turn false l (both (leb 1 w) (isLit (litOf l)) (h .0) .1)) (words-back false ws ls (omega (arith, e)) (h .1))
 words-back true (w ∷ ws) (l ∷ ls) e g =
-    let h = and-eq-true-iff (leb 1 w && isLit (litOf l)) _ .0 g in
-    ap₂ _∷_ (word-turn true l (and-eq-true-iff (leb 1 w) _ .0 (h .0) .1)) (words-back true ws ls (omega (arith, e)) (h .1))
+    let h = both (leb 1 w && isLit (litOf l)) (goodTerms (termsOf ws ls)) g in
+    ap₂ _∷_ (word-turn true l (both (leb 1 w) (isLit (litOf l)) (h .0) .1)) (words-back true ws ls (omega (arith, e)) (h .1))
 
 -- and of the added term
 weights-added : (a : ℕ) (l : Lit) → map weightOf (addedSum a l) ≡ added a a
@@ -104,17 +94,17 @@ module _ (o : Order) (b : ℕ) (ts : List Term) (ow : List ℕ) (ol : List ℤ) 
 
 module _ (z : ℤ) (fine : isLiteral z ≡ true) (ow : List ℕ) (ol : List ℤ) where
   put : (tw : List ℕ) (tl : List ℤ) → length tl ≡ length tw → goodTerms (termsOf tw tl) ≡ true → (o : Order) (n : Bool) (a : ℕ) (m : Bool) (b : ℕ)
-      → writtenLists o n a (flip m z) b tw tl ow ol ≡ written (linear o (turned n (termsOf tw tl) ++ addedSum a (turn m (litOf z))) b) ow ol
+      → writtenLists o n a (turnedWord m z) b tw tl ow ol ≡ written (linear o (turnAll n (termsOf tw tl) ++ addedSum a (turn m (litOf z))) b) ow ol
   unfolding writtenLists lay
   put tw tl same good o n a m b =
-      let ts = turned n (termsOf tw tl) in
+      let ts = turnAll n (termsOf tw tl) in
       let extra = addedSum a (turn m (litOf z)) in
       laid o b (ts ++ extra) ow ol _ _ (map-append weightOf ts extra ∙ ap₂ _++_ (weights-back n tw tl same) (weights-added a (turn m (litOf z))))
       (map-append wordOf ts extra ∙ ap₂ _++_ (words-back n tw tl same good) (words-added a (turn m (litOf z)) ∙ ap (added a) (word-turn m z fine)))
 
   -- lit alone
   alone : writtenLists lower false 1 z 1 [] [] ow ol ≡ written (unit (litOf z)) ow ol
-  unfolding unit flip termsOf addedSum goodTerms
+  unfolding unit turnedWord termsOf addedSum goodTerms
   alone = put [] [] refl refl lower false 1 false 1
 
   -- each row, with the sum of the weights
@@ -126,7 +116,7 @@ module _ (z : ℤ) (fine : isLiteral z ≡ true) (ow : List ℕ) (ol : List ℤ)
     s = total ts
 
     upper-row : (w : Way) (n : ℕ) → carriedOut (upperPlan w n s) z tw tl ow ol ≡ written (made w upper (pos n) (litOf z) ts) ow ol
-    unfolding carriedOut upperPlan made orderOf flip
+    unfolding carriedOut upperPlan made orderOf turnedWord
     upper-row litImplies n = put tw tl same good upper false s false (n + s)
     upper-row impliesLit n = go (leb s n) refl
       where

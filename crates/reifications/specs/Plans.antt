@@ -1,15 +1,16 @@
 -- What the inner contracts cite: the check, the plan, and a plan carried out on words. Assumes nothing: these are definitions.
 use mathlib.Core.Bool.{Bool, true, false, cond, _&&_}
-use mathlib.Core.List.{List, [], _∷_, _++_, map}
+use mathlib.Core.List.{List, [], _∷_, _++_}
 use Prim.Native.Nat.{ℕ, _+_, _*_, _-_}
 use lib.Dec.{leb, ltb, eqb}
 use lib.IntN.{ℤ, pos, negsuc}
 use lib.ListN.{length}
 use lib.Seq.{sets}
 use Rattle.model.specs.Logic.{total}
-use Rattle.model.specs.Words.{litOf, negated}
+use Rattle.model.specs.Words.{litOf}
 use Rattle.model.specs.Replies as replies
 use Rattle.model.specs.Reifications as model
+use Rattle.clauses.specs.Parts.{turned, turnedWord}
 use Rattle.reifications.specs.declared.Order.the-variants as order
 use Rattle.reifications.specs.declared.plan.Checked.{Checked}
 use Rattle.reifications.specs.declared.plan.Checked.the-variants as checked
@@ -53,11 +54,6 @@ planOf w (model.ordered model.lower b) s = lowerPlan w (partOf b) s
 unfoldable pub plannedOf : model.Way → model.Bound → ℤ → List ℕ → List ℤ → Plan
 plannedOf w k z ws ls = cond (goodLists z ws ls) (planOf w k (total (model.termsOf ws ls))) Bad
 
--- a word as it is, or that of the negated literal
-unfoldable pub flip : Bool → ℤ → ℤ
-flip false z = z
-flip true z = negated z
-
 -- what is added beside a weight: nothing where that is 0
 unfoldable pub added {ℓ} : {A : Type ℓ} → ℕ → A → List A
 added s x = cond (eqb s 0) [] (x ∷ [])
@@ -66,7 +62,7 @@ added s x = cond (eqb s 0) [] (x ∷ [])
 unfoldable pub writtenLists : model.Order → Bool → ℕ → ℤ → ℕ → List ℕ → List ℤ → List ℕ → List ℤ → model.Reified
 writtenLists o n a z b tw tl ow ol =
     let ws : List ℕ = tw ++ added a a in
-    let ls : List ℤ = map (flip n) tl ++ added a z in
+    let ls : List ℤ = turned n tl ++ added a z in
     let done : model.Reified = model.reifiedTo (model.accepted o (length ws) b) (sets ow 0 ws) (sets ol 0 ls) in
     cond (leb (length ws) (length ow) && leb (length ls) (length ol)) done (model.reifiedTo (model.refused replies.NoRoom) ow ol)
 
@@ -76,4 +72,4 @@ carriedOut Equality z tw tl ow ol = model.reifiedTo (model.refused replies.Equal
 carriedOut Impossible z tw tl ow ol = model.reifiedTo (model.refused replies.Unsat) ow ol
 carriedOut Nothing z tw tl ow ol = model.reifiedTo (model.accepted model.lower 0 0) ow ol
 carriedOut Unit z tw tl ow ol = writtenLists model.lower false 1 z 1 [] [] ow ol
-carriedOut (Terms o n a m b) z tw tl ow ol = writtenLists (orderOf o) n a (flip m z) b tw tl ow ol
+carriedOut (Terms o n a m b) z tw tl ow ol = writtenLists (orderOf o) n a (turnedWord m z) b tw tl ow ol

@@ -1,30 +1,19 @@
 // Carries a plan out: the terms go to the two lent lists, from place 0 on, where they fit both.
 ghost use mathlib.Core.Path.{_≡_};
 ghost use mathlib.Core.Bool.{cond};
-ghost use mathlib.Core.List.{_++_, map};
+ghost use mathlib.Core.List.{_++_};
 ghost use Prim.Native.Nat.{_≤_, _+_};
 ghost use lib.Dec.{eqb};
 ghost use lib.ListN.{length};
 ghost use lib.Seq.{sets};
 ghost use Rattle.model.specs.Reifications.{reifiedTo};
+ghost use Rattle.clauses.specs.Parts.{turned, turnedWord};
 ghost use Rattle.reifications.specs.Read.{answerOf, orderOf};
-ghost use Rattle.reifications.specs.Plans.{added, carriedOut, flip, writtenLists};
+ghost use Rattle.reifications.specs.Plans.{added, carriedOut, writtenLists};
 use crate::Order;
 use crate::Reified;
 use crate::plan::Plan;
 use literal::Literal;
-
-// A literal as it is, or negated.
-fn flipped(negate: bool, word: i32) -> i32
-    ensures { λ r. ⌜ r ≡ flip negate word ⌝ }
-{
-    if negate {
-        let l = Literal { word };
-        let m = l.negated();
-        return m.word;
-    }
-    word
-}
 
 fn copy_weights(from: &[u32], to: &mut [u32])
     requires { ⌜ length (now from) ≤ length (now to) ⌝ }
@@ -33,18 +22,6 @@ fn copy_weights(from: &[u32], to: &mut [u32])
     let mut i = 0;
     while i < from.len() {
         to[i] = from[i];
-        i += 1;
-    }
-}
-
-fn copy_literals(negate: bool, from: &[i32], to: &mut [i32])
-    requires { ⌜ length (now from) ≤ length (now to) ⌝ }
-    ensures { λ r. ⌜ now (to .exit) ≡ sets (now (to .entry)) 0 (map (flip negate) (now (from .entry))) ⌝ }
-{
-    let mut i = 0;
-    while i < from.len() {
-        let w = flipped(negate, from[i]);
-        to[i] = w;
         i += 1;
     }
 }
@@ -72,16 +49,23 @@ fn write_weights(from: &[u32], weight: u32, to: &mut [u32])
     to[n] = weight;
 }
 
-fn write_literals(negate: bool, from: &[i32], weight: u32, last: i32, to: &mut [i32])
-    requires { ⌜ length (map (flip negate) (now from) ++ added weight last) ≤ length (now to) ⌝ }
-    ensures { λ r. ⌜ now (to .exit) ≡ sets (now (to .entry)) 0 (map (flip negate) (now (from .entry)) ++ added weight last) ⌝ }
+fn write_literals(
+    negate: bool,
+    from: &[i32],
+    weight: u32,
+    last: i32,
+    negate_last: bool,
+    to: &mut [i32],
+)
+    requires { ⌜ length (turned negate (now from) ++ added weight (turnedWord «negate_last» last)) ≤ length (now to) ⌝ }
+    ensures { λ r. ⌜ now (to .exit) ≡ sets (now (to .entry)) 0 (turned negate (now (from .entry)) ++ added weight (turnedWord «negate_last» last)) ⌝ }
 {
-    copy_literals(negate, from, to);
+    let n = clauses::put_part(to, 0, from, negate);
     if weight == 0 {
         return;
     }
-    let n = from.len();
-    to[n] = last;
+    let one = [last];
+    clauses::put_part(to, n, &one, negate_last);
 }
 
 // The terms, plain or negated, and the added one; nothing where they do not fit both lists.
@@ -90,13 +74,14 @@ fn write_terms(
     negate: bool,
     weight: u32,
     last: i32,
+    negate_last: bool,
     bound: u32,
     term_weights: &[u32],
     term_literals: &[i32],
     weights: &mut [u32],
     literals: &mut [i32],
 ) -> Reified
-    ensures { λ r. ⌜ reifiedTo (answerOf r) (now (weights .exit)) (now (literals .exit)) ≡ writtenLists (orderOf order) negate weight last bound (now («term_weights» .entry)) (now («term_literals» .entry)) (now (weights .entry)) (now (literals .entry)) ⌝ }
+    ensures { λ r. ⌜ reifiedTo (answerOf r) (now (weights .exit)) (now (literals .exit)) ≡ writtenLists (orderOf order) negate weight (turnedWord «negate_last» last) bound (now («term_weights» .entry)) (now («term_literals» .entry)) (now (weights .entry)) (now (literals .entry)) ⌝ }
 {
     let n = with_added(term_weights.len(), weight);
     let m = with_added(term_literals.len(), weight);
@@ -107,7 +92,7 @@ fn write_terms(
         return Reified::NoRoom;
     }
     write_weights(term_weights, weight, weights);
-    write_literals(negate, term_literals, weight, last, literals);
+    write_literals(negate, term_literals, weight, last, negate_last, literals);
     Reified::Accepted(order, n, bound)
 }
 
@@ -141,6 +126,7 @@ pub(crate) fn carry_out(
                 false,
                 1,
                 word,
+                false,
                 1,
                 &term_weights[..0],
                 &term_literals[..0],
@@ -155,12 +141,12 @@ pub(crate) fn carry_out(
             negate_lit,
             bound,
         } => {
-            let last = flipped(negate_lit, word);
             return write_terms(
                 order,
                 negate,
                 added,
-                last,
+                word,
+                negate_lit,
                 bound,
                 term_weights,
                 term_literals,

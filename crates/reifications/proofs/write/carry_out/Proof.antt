@@ -1,9 +1,8 @@
 -- `carry_out` writes what a plan says. Assumes nothing.
-use mathlib.Core.Path.{ap, _∙_}
 use mir.Syntax.{w32}
 use mir.Val.{SFits}
 use Rattle.literal.proofs.Signed.{back}
-use Rattle.reifications.specs.Plans.{carriedOut, flip}
+use Rattle.reifications.specs.Plans.{carriedOut}
 use Rattle.reifications.specs.Read.{answerOf, orderOf}
 use borrow.Author.Needs.{needs}
 use Rattle.reifications.proofs.Writing.{unit-out, terms-out}
@@ -69,9 +68,6 @@ returns-5 c =
 enum-known-plan : tie.Need-enum-known-plan
 enum-known-plan c = search needs
 
-flipped-requires : tie.Need-flipped-requires
-flipped-requires c κs = search needs
-
 write-terms-requires-2 : tie.Need-write-terms-requires-2
 write-terms-requires-2 c κs = search needs
 
@@ -85,10 +81,8 @@ returns-6 : tie.Need-returns-6
 unfolding answerOf orderOf carriedOut
 returns-6 c =
     let w = c .before .before .before in
-    let f = w .before .before .before in
-    let p = f .before .before in
-    terms-out _ _ _ _ _ _ _ _ _ _ _ _ _ (p .plan .given .1)
-    (back (record { sfits = f .flipped .ok }) ∙ f .flipped .ensures ∙ ap (flip _) (back (told (p .before .before)))) (w .write-terms2 .ensures)
+    let p = w .before .before .before .before in
+    terms-out _ _ _ _ _ _ _ _ _ _ _ _ _ (p .plan .given .1) (back (told (p .before .before))) (w .write-terms2 .ensures)
 
 pub carry-out-spec : {M : Type 1} → statement M
 carry-out-spec =
@@ -110,7 +104,6 @@ carry-out-spec =
     same-length-2
     returns-5
     enum-known-plan
-    flipped-requires
     write-terms-requires-2
     same-length-3
     same-length-4

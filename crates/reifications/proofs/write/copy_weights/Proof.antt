@@ -1,7 +1,6 @@
 -- `copy_weights` copies from place 0 on. The invariant: what is left, copied from here on, gives the whole copy. Assumes nothing.
-use mathlib.Core.Path.{_≡_, refl, ap}
-use mathlib.Core.List.{map, map-id}
-use Prim.Native.Nat.{ℕ, _≤_, _-_}
+use mathlib.Core.Path.{_≡_, refl}
+use Prim.Native.Nat.{_≤_, _-_}
 use native.Mathlib.Omega.{arith}
 use borrow.Author.Needs.{needs}
 use lib.ListN.{length, drop, length-set}
@@ -11,13 +10,13 @@ use Rattle.reifications.proofs.write.copy_weights.Statement.{statement}
 use Rattle.reifications.proofs.write.copy_weights.Tie as tie
 
 abbrev Inv-loop : tie.InvT-loop
-Inv-loop from to₀ i₀ to i = (i ≤ length from) × (length to ≡ length to₀) × (sets to i (map (λ (x : ℕ). x) (drop i from)) ≡ sets to₀ 0 from)
+Inv-loop from to₀ i₀ to i = (i ≤ length from) × (length to ≡ length to₀) × (sets to i (drop i from) ≡ sets to₀ 0 from)
 
 abbrev μ-loop : tie.MeasureT-loop
 μ-loop from to₀ i₀ to i = length from - i
 
 loop-holds : tie.Need-loop-holds Inv-loop μ-loop
-loop-holds c = (omega arith, refl, ap (sets (c .args .to .now) 0) (map-id (c .args .from .now)))
+loop-holds c = (omega arith, refl, refl)
 
 mul-to : tie.Need-mul-to Inv-loop μ-loop
 mul-to c = search needs
@@ -42,14 +41,14 @@ loop-again c =
     let h = c .before .before in (
       omega arith,
       simp length-set (h .loop .inv .1),
-      copy-step (λ (x : ℕ). x) (h .before .args .from .now) (h .loop .i) (h .loop .to) _ _ 0 (c .before .loop-test .taken) refl (h .loop .inv .2),
+      copy-step (h .before .args .from .now) (h .loop .i) (h .loop .to) _ 0 (c .before .loop-test .taken) (h .loop .inv .2),
     )
 
 same-length : tie.Need-same-length Inv-loop μ-loop
 same-length c = c .before .loop .inv .1
 
 returns : tie.Need-returns Inv-loop μ-loop
-returns c = copy-end (λ (x : ℕ). x) (c .before .before .args .from .now) (c .before .loop .i) _ _ (c .loop-test .left) (c .before .loop .inv .2)
+returns c = copy-end (c .before .before .args .from .now) (c .before .loop .i) _ _ (c .loop-test .left) (c .before .loop .inv .2)
 
 pub copy-weights-spec : {M : Type 1} → statement M
 copy-weights-spec =

@@ -1,8 +1,7 @@
 -- `write_weights` copies the weights and stores the added one behind them. Assumes nothing.
-use mathlib.Core.Path.{refl}
 use native.Mathlib.Omega.{arith}
 use lib.ListN.{length}
-use Rattle.reifications.proofs.Copies.{write-room, write-none, write-more, write-one}
+use Rattle.reifications.proofs.Copies.{write-room, write-none, write-more, write-last}
 use borrow.Author.Needs.{needs}
 use Rattle.reifications.proofs.write.write_weights.Statement.{statement}
 use Rattle.reifications.proofs.write.write_weights.Tie as tie
@@ -26,7 +25,7 @@ slice-write-to : tie.Need-slice-write-to
 slice-write-to c =
     let st = c .before .before .before .before .before .before .before in
     let s = st .args in
-    omega (arith, write-more (s .weight) (s .weight) (s .from .now) (s .to .now) (length (s .to .now)) (c .if1 .left) (st .pre), c .before .before .before .copy-weights .kept .1 .0)
+    omega (arith, write-more (s .weight) (s .weight) (s .from .now) (s .to .now) (c .if1 .left) (length (s .to .now)) (st .pre), c .before .before .before .copy-weights .kept .1 .0)
 
 same-length-2 : tie.Need-same-length-2
 same-length-2 c = search needs
@@ -35,7 +34,7 @@ returns-2 : tie.Need-returns-2
 returns-2 c =
     let st = c .before .before .before .before .before .before .before in
     let s = st .args in
-    write-one (s .weight) (s .weight) (s .from .now) (s .to .now) _ _ _ (c .if1 .left) (c .before .before .before .copy-weights .ensures) refl refl
+    write-last (s .weight) (s .weight) (s .from .now) (s .to .now) (c .if1 .left) _ (c .before .before .before .copy-weights .ensures)
 
 pub write-weights-spec : {M : Type 1} → statement M
 write-weights-spec =
