@@ -1,12 +1,12 @@
 -- Codes and pairs: a code's words are the literal's and its negation's; a code for each connection, a pair for each code, one a turn.
 -- Assumes nothing.
-use mathlib.Core.Path.{_≡_, refl, sym, ap, ap₂, _∙_}
+use mathlib.Core.Path.{_≡_, refl, sym, ap, _∙_}
 use mathlib.Core.List.{List, [], _∷_, _++_, append-assoc}
 use mathlib.Core.Option.{Option, none, some}
-use Prim.Native.Nat.{ℕ, zero, suc, _≤_, _<_, _+_, _*_, _/_, _%_, max}
+use Prim.Native.Nat.{ℕ, zero, suc, _≤_, _<_, _+_, _*_, _/_, _%_}
 use native.Mathlib.Omega.{arith}
 use native.Mathlib.Numerals.{add-one}
-use lib.IntN.{ℤ, pos, negsuc, negℤ}
+use lib.IntN.{ℤ, pos, negℤ}
 use lib.ListN.{length, getD, set, take, length-set}
 use lib.Seq.{take-all, take-suc, take-suc-set, getD-take, length-take-le}
 use Rattle.model.specs.Logic.{Lit, pL, nL, neg}
@@ -191,3 +191,13 @@ paired os len ps e h =
       long = length-take-le len os h;
       same = λ j m l k. rw (e, getD-take len os j none l) (pair-at os j m k (omega arith));
     }
+
+-- ---- for the callers: the outputs of the first connections
+pub outs-long : (t ws : List ℕ) → length (outLits t ws) ≡ length ws
+outs-long t [] = refl
+outs-long t (w ∷ ws) = ap suc (outs-long t ws)
+
+pub outs-take : (t ws : List ℕ) (n : ℕ) → take n (outLits t ws) ≡ outLits t (take n ws)
+outs-take t ws zero = refl
+outs-take t [] (suc n) = refl
+outs-take t (w ∷ ws) (suc n) = ap (λ (os : Outs). outLit t w ∷ os) (outs-take t ws n)

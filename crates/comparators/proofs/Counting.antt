@@ -1,9 +1,9 @@
 -- What the clauses take, one bit a turn: the words and clauses that are begun, with those that are to come, give the whole. Assumes nothing.
-use mathlib.Core.Path.{_≡_, refl, sym, ap, ap₂, _∙_}
+use mathlib.Core.Path.{_≡_, refl, sym, ap₂, _∙_}
 use mathlib.Core.Bool.{Bool, true, false}
 use mathlib.Core.List.{List, [], _∷_, _++_}
 use mathlib.Core.Option.{Option, none, some}
-use Prim.Native.Nat.{ℕ, zero, suc, _≤_, _<_, _+_, _*_, _/_, _%_, _^_, max}
+use Prim.Native.Nat.{ℕ, suc, _≤_, _<_, _+_, _*_, _/_, _%_}
 use native.Mathlib.Nat.{mul-suc, suc-mul}
 use native.Mathlib.Omega.{arith}
 use native.Mathlib.Numerals.{add-one}
@@ -14,10 +14,10 @@ use lib.Seq.{drop-cons, getD-take, length-take-le}
 use Rattle.model.specs.Logic.{Lit, pL, nL, neg}
 use Rattle.model.specs.Words.{clauseWords, flat}
 use Rattle.model.specs.Signs.{Dir, iff, onlyif}
-use Rattle.model.specs.Compare.{Outs, ahead, above, higher, begins, clauseOf, compareRows, comparator}
+use Rattle.model.specs.Compare.{Outs, ahead, higher, clauseOf, compareRows}
 use Rattle.comparators.specs.declared.Need.{Need}
 use Rattle.comparators.specs.Codes.{codeOf, codesOf}
-use Rattle.comparators.specs.Rows.{wants, sizeOf, onlyFrom}
+use Rattle.comparators.specs.Rows.{wants, sizeOf}
 use Rattle.comparators.proofs.Codings.{code-there}
 use Rattle.comparators.proofs.Walks.{given, above-some, begins-not, begins-there, begins-none, counts, counts-not}
 

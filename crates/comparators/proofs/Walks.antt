@@ -1,5 +1,5 @@
 -- The row of a bound and its tails: one turn of each loop, as laws of the model's definitions. Assumes nothing.
-use mathlib.Core.Path.{_≡_, refl, sym, ap, ap₂, _∙_}
+use mathlib.Core.Path.{_≡_, refl, sym, ap, _∙_}
 use mathlib.Core.Bool.{Bool, true, false, cond}
 use mathlib.Core.List.{List, [], _∷_, _++_, map, map-append, append-assoc, append-nil}
 use mathlib.Core.Option.{Option, none, some}
@@ -58,22 +58,18 @@ word-there (nL n) e = go (n % 0x8000_0000) (omega arith) e
     go zero h z = let y : _≡_ {A = ℕ} 0 1 = cc in omega arith
     go (suc m) h z = let y : m ≡ 2147483647 = cc in omega arith
 
-pub there : (m : ℕ) (o : Option Lit) (w : ℤ) → w ≡ pairWord m o → (w ≡ absent → ⊥) → (l : Lit) × (o ≡ some l)
+there : (m : ℕ) (o : Option Lit) (w : ℤ) → w ≡ pairWord m o → (w ≡ absent → ⊥) → (l : Lit) × (o ≡ some l)
 unfolding pairWord
 there m none w e h = absurd (h e)
 there m (some l) w e h = (l, refl)
 
-pub missing : (m : ℕ) (o : Option Lit) (w : ℤ) → w ≡ pairWord m o → w ≡ absent → o ≡ none
+missing : (m : ℕ) (o : Option Lit) (w : ℤ) → w ≡ pairWord m o → w ≡ absent → o ≡ none
 unfolding pairWord
 missing m none w e h = refl
 missing zero (some l) w e h = absurd (word-there l (sym e ∙ h))
 missing (suc m) (some l) w e h = absurd (word-there (neg l) (sym e ∙ h))
 
 -- ---- laws of the definitions
-pub clause-none : (a : Option (List Lit)) (b : Lit) → clauseOf a none b ≡ []
-clause-none none b = refl
-clause-none (some a) b = refl
-
 -- what an output that is there gives to the clauses below
 abbrev pub given : ℕ → Lit → Lit
 given zero l = l
@@ -267,7 +263,7 @@ module _ (δ : Dir) (os : Outs) (len : ℕ) (ps : List ℤ) (pairs : Paired os l
           rows = first none gone ∙ rw (z, sofar-shut δ j (higher (drop (j + 1) os) (left / 2)) b, add-one j);
         }
 
-pub clause-words : (ls : List Lit) (b : Lit) → clauseWords (ls ++ (b ∷ [])) ≡ map word ls ++ (word b ∷ pos 0 ∷ [])
+clause-words : (ls : List Lit) (b : Lit) → clauseWords (ls ++ (b ∷ [])) ≡ map word ls ++ (word b ∷ pos 0 ∷ [])
 unfolding clauseWords
 clause-words [] b = refl
 clause-words (l ∷ ls) b = ap (λ (ws : List ℤ). word l ∷ ws) (clause-words ls b)

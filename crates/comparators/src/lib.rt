@@ -28,7 +28,7 @@ pub struct Need {
 }
 
 // The row of a bound: how many words it has, the lowest output that takes part, and how many clauses begin in it.
-pub struct Row {
+struct Row {
     pub len: usize,
     pub lowest: usize,
     pub begun: usize,
@@ -357,14 +357,14 @@ fn need_of(codes: &[u32; 48], len: usize, want: usize, r: u64) -> Need
     let mut left = r;
     let mut j: usize = 0;
     while j < len {
-        let one = (left % 2) as usize;
+        let bit = (left % 2) as usize;
         let code = codes[j];
         left = left / 2;
         j += 1;
         if code != 0 {
-            n += (one + want + 1) % 2;
+            n += (bit + want + 1) % 2;
             w = w + n;
-        } else if one == 1 {
+        } else if bit == 1 {
             w = 0;
             n = want;
         }
