@@ -272,18 +272,18 @@ below-up : (qs : List ℕ) (m n : ℕ) → m ≤ n → Below qs m → Below qs n
 below-up [] m n h k = tt
 below-up (q ∷ qs) m n h k = (omega (arith, k .0), below-up qs m n h (k .1))
 
-pub walk-all : (δ : Dir) (os : Outs) (r : ℕ) (b : Lit) (row row′ : List ℤ) (starts : List ℕ) (q k lowest left j len : ℕ) (w : ℤ)
+pub walk-all : (δ : Dir) (os : Outs) (r : ℕ) (b : Lit) (row row′ : List ℤ) (starts : List ℕ) (q k lowest left j len n : ℕ) (w : ℤ)
     → Walk δ os r b row starts q k lowest left j
-    → length os ≡ len → len ≤ j → q + 1 < length row → w ≡ word b → row′ ≡ set (set row q w) (q + 1) (pos 0)
-    → Rowed δ os r b (take (q + 2) row′) (take k starts) lowest
-walk-all δ os r b row row′ starts q k lowest left j len w inv n l h v e =
+    → length os ≡ len → len ≤ j → q + 1 < length row → w ≡ word b → (n ≡ q + 2) × (row′ ≡ set (set row q w) (q + 1) (pos 0))
+    → Rowed δ os r b (take n row′) (take k starts) lowest
+walk-all δ os r b row row′ starts q k lowest left j len n w inv long l h v e =
     let p : q + 2 ≡ suc (q + 1) = omega arith in
     let g : q + 1 < length (set row q w) = simp length-set h in
     let z : length os ≤ j = omega arith in
     record {
       clause = inv .front ++ (b ∷ []);
       words =
-          rw (e, p, take-suc-set (set row q w) (q + 1) (pos 0) g, add-one q, take-suc-set row q w (omega arith), inv .words, v)
+          rw (e .1, e .0, p, take-suc-set (set row q w) (q + 1) (pos 0) g, add-one q, take-suc-set row q w (omega arith), inv .words, v)
           (append-assoc (map word (inv .front)) (word b ∷ []) (pos 0 ∷ []) ∙ sym (clause-words (inv .front) b));
       places = below-up (take k starts) q (length (inv .front ++ (b ∷ []))) (omega (arith, inv .long, length-append (inv .front) (b ∷ []))) (inv .places);
       rows = inv .rows ∙ rw (drop-of-length-le os z) (append-nil (opening δ lowest (inv .front ++ (b ∷ [])) ++ map (tailOf (inv .front ++ (b ∷ []))) (take k starts)));

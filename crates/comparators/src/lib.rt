@@ -4,7 +4,8 @@ ghost use mathlib.Core.Path.{_≡_};
 ghost use mathlib.Core.List.{_∷_};
 ghost use mathlib.Core.Option.{Option, some};
 ghost use Prim.Native.Nat.{ℕ, _+_, _≤_, _<_, _^_};
-ghost use lib.ListN.{length, getD, take};
+ghost use lib.IntN.{pos};
+ghost use lib.ListN.{length, getD, set, take};
 ghost use lib.Seq.{sets};
 ghost use lib.Dec.{leb};
 ghost use Rattle.model.specs.Logic.{Lit, pL, nL};
@@ -136,6 +137,16 @@ pub fn pairs_of(codes: [u32; 48]) -> [i32; 96]
     pairs
 }
 
+// The end of a row of q words: the bound's word and 0. The row's length then.
+fn end_row(row: &mut [i32], q: usize, own: i32) -> usize
+    requires { ⌜ q + 2 ≤ length (now row) ⌝ }
+    ensures { λ n. ⌜ (n ≡ q + 2) × (now (row .exit) ≡ set (set (now (row .entry)) q own) (q + 1) (pos 0)) ⌝ }
+{
+    row[q] = own;
+    row[q + 1] = 0;
+    q + 2
+}
+
 // The words of the bits of r, the absent ones left out, then the bound's word and 0; and the places in the row where a clause begins, which are
 // those of the wanted bits: 0 for if, 1 for only-if. A 1 whose output is absent shuts out all below it.
 fn row_of(
@@ -171,10 +182,8 @@ fn row_of(
             lowest = j;
         }
     }
-    row[q] = own;
-    row[q + 1] = 0;
     Row {
-        len: q + 2,
+        len: end_row(row, q, own),
         lowest: lowest,
         begun: k,
     }

@@ -1,10 +1,9 @@
 -- `row_of` writes the row of a bound, and where its clauses begin, one bit a turn. Assumes nothing.
 use borrow.Author.Needs.{needs}
-use mathlib.Core.Path.{_≡_, refl, ap}
-use Prim.Native.Nat.{_≤_, _-_, _+_}
+use mathlib.Core.Path.{_≡_, refl, _∙_}
+use Prim.Native.Nat.{_≤_, _-_}
 use native.Mathlib.Omega.{arith}
-use lib.IntN.{ℤ, pos}
-use lib.ListN.{length, set, length-set}
+use lib.ListN.{length, length-set}
 use Rattle.literal.proofs.Signed.{back}
 use Rattle.model.specs.Logic.{Lit}
 use Rattle.model.specs.Signs.{Dir}
@@ -23,7 +22,7 @@ abbrev μ-loop : tie.MeasureT-loop
 μ-loop row₀ starts₀ pairs len want r own q₀ k₀ lowest₀ left₀ j₀ row starts q k lowest left j = len - j
 
 loop-holds : tie.Need-loop-holds Inv-loop μ-loop
-loop-holds c = ((omega arith, omega arith, omega arith, refl, refl), λ δ os b u p. walk-none δ os (c .args .r) b (c .args .row .now) (c .args .starts .now))
+loop-holds c = ((omega arith, omega arith, omega arith, refl, refl), λ δ os b u p. walk-none δ os (c .before .args .r) b (c .before .args .row .now) (c .before .args .starts .now))
 
 mul-w : tie.Need-mul-w Inv-loop μ-loop
 mul-w c = search needs
@@ -70,7 +69,7 @@ loop-less c = search needs
 loop-again : tie.Need-loop-again Inv-loop μ-loop
 loop-again c =
     let l = c .before .before .before in
-    let s = l .before .args in (
+    let s = l .before .before .args in (
       (omega arith, omega arith, omega arith, simp length-set (l .loop .inv .0 .3), simp length-set (l .loop .inv .0 .4)),
       λ δ os b u p. let e = back (record { sfits = c .before .w .given }) in
           walk-there δ os (s .len) (s .pairs .now) p (s .want) u (omega arith) (s .r) b (l .loop .row) (l .loop .starts) (l .loop .q) (l .loop .k) (l .loop .lowest) (l .loop .left) (l .loop .j) (l .loop .inv .1 δ os b u p) (c .before .before .loop-test .taken) _ e (omega arith) (omega arith) (told-there _ _ e (c .if1 .taken)),
@@ -82,7 +81,7 @@ loop-less-2 c = search needs
 loop-again-2 : tie.Need-loop-again-2 Inv-loop μ-loop
 loop-again-2 c =
     let l = c .before .before .before .before in
-    let s = l .before .args in (
+    let s = l .before .before .args in (
       (omega arith, omega arith, omega arith, l .loop .inv .0 .3, l .loop .inv .0 .4),
       λ δ os b u p. let e = back (record { sfits = c .before .before .w .given }) in
           walk-shut δ os (s .len) (s .pairs .now) p (s .want) u (omega arith) (s .r) b (l .loop .row) (l .loop .starts) (l .loop .q) (l .loop .k) (l .loop .lowest) (l .loop .left) (l .loop .j) (l .loop .inv .1 δ os b u p) (c .before .before .before .loop-test .taken) _ e (told-absent _ _ e (record { sfits = c .before .before .w .given }) (c .before .if1 .left)) (c .if2 .taken),
@@ -94,43 +93,27 @@ loop-less-3 c = search needs
 loop-again-3 : tie.Need-loop-again-3 Inv-loop μ-loop
 loop-again-3 c =
     let l = c .before .before .before .before in
-    let s = l .before .args in (
+    let s = l .before .before .args in (
       (omega arith, omega arith, omega arith, l .loop .inv .0 .3, l .loop .inv .0 .4),
       λ δ os b u p. let e = back (record { sfits = c .before .before .w .given }) in
           walk-nothing δ os (s .len) (s .pairs .now) p (s .want) u (omega arith) (s .r) b (l .loop .row) (l .loop .starts) (l .loop .q) (l .loop .k) (l .loop .lowest) (l .loop .left) (l .loop .j) (l .loop .inv .1 δ os b u p) (c .before .before .before .loop-test .taken) _ e (told-absent _ _ e (record { sfits = c .before .before .w .given }) (c .before .if1 .left)) (c .if2 .left),
     )
 
-mul-own : tie.Need-mul-own Inv-loop μ-loop
-mul-own c = search needs
-
-slice-set-from-own : tie.Need-slice-set-from-own Inv-loop μ-loop
-slice-set-from-own c = search needs
-
-add-row : tie.Need-add-row Inv-loop μ-loop
-add-row c = search needs
-
-mul-row : tie.Need-mul-row Inv-loop μ-loop
-mul-row c = search needs
-
-slice-set-of-row : tie.Need-slice-set-of-row Inv-loop μ-loop
-slice-set-of-row c = simp length-set (omega arith)
-
-add-t30 : tie.Need-add-t30 Inv-loop μ-loop
-add-t30 c = search needs
+end-row-requires : tie.Need-end-row-requires Inv-loop μ-loop
+end-row-requires c κs = search needs
 
 same-length : tie.Need-same-length Inv-loop μ-loop
-same-length c = simp length-set (c .before .loop .inv .0 .3)
+same-length c = search needs
 
 same-length-2 : tie.Need-same-length-2 Inv-loop μ-loop
 same-length-2 c = search needs
 
 returns : tie.Need-returns Inv-loop μ-loop
 returns c =
-    let l = c .before in
-    let s = l .before .args in (
-      (omega arith, omega arith, omega arith),
-      λ δ os b u p v. walk-all δ os (s .r) b (l .loop .row) _ (l .loop .starts) (l .loop .q) (l .loop .k) (l .loop .lowest) (l .loop .left) (l .loop .j) (s .len) (s .own) (l .loop .inv .1 δ os b u p) (p .long) (c .loop-test .left) (omega arith) v
-          (ap (λ (z : ℤ). set (set (l .loop .row) (l .loop .q) z) (l .loop .q + 1) (pos 0)) (back (l .before .fits .own))),
+    let l = c .before .before .before .before in
+    let s = l .before .before .args in (
+      (omega (arith, c .before .end-row .ensures .0), omega (arith, c .before .end-row .ensures .0), omega arith),
+      λ δ os b u p v. walk-all δ os (s .r) b (l .loop .row) _ (l .loop .starts) (l .loop .q) (l .loop .k) (l .loop .lowest) (l .loop .left) (l .loop .j) (s .len) _ _ (l .loop .inv .1 δ os b u p) (p .long) (c .before .before .before .loop-test .left) (omega arith) (back (l .before .before .fits .own) ∙ v) (c .before .end-row .ensures),
     )
 
 pub row-of-spec : {M : Type 1} → statement M
@@ -159,12 +142,7 @@ row-of-spec =
     loop-again-2
     loop-less-3
     loop-again-3
-    mul-own
-    slice-set-from-own
-    add-row
-    mul-row
-    slice-set-of-row
-    add-t30
+    end-row-requires
     same-length
     same-length-2
     returns)
