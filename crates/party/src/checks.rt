@@ -8,16 +8,18 @@ ghost use Rattle.party.specs.Read.{termOf, partyOf};
 use crate::Party;
 use literal::GREATEST;
 use literal::Literal;
+use literal::MOST_TERMS;
+use literal::OUTPUTS;
 use literal::Term;
 
 // A count of pending terms, cut to the places that there are.
 pub fn places(count: usize) -> usize
     ensures { λ r. ⌜ r ≡ min count 128 ⌝ }
 {
-    if count < 128 {
+    if count < MOST_TERMS {
         return count;
     }
-    128
+    MOST_TERMS
 }
 
 // A pending term that is itself a BadTerm.
@@ -37,6 +39,7 @@ pub fn bad_pending(first: u32, weight: u32, word: u32) -> bool
     first <= n
 }
 
+// One of the pending terms is.
 pub fn any_bad(p: Party) -> bool
     ensures { λ r. ⌜ r ≡ anyBad (p .first) (pending (partyOf p)) ⌝ }
 {
@@ -65,12 +68,13 @@ pub fn bad_output(nodes: u32, word: u32) -> bool
     nodes <= word / 4
 }
 
+// One of the 48 outputs is.
 pub fn any_bad_output(p: Party) -> bool
     ensures { λ r. ⌜ r ≡ anyBadOutput (p .nodes) (p .outputs) ⌝ }
 {
     let nodes = p.nodes;
     let mut i = 0;
-    while i < 48 {
+    while i < OUTPUTS {
         if bad_output(nodes, p.outputs[i]) {
             return true;
         }

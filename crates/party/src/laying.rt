@@ -5,6 +5,8 @@ ghost use lib.ListN.{take};
 ghost use Rattle.party.specs.Adding.{firstOf, laid};
 use crate::Adding;
 use crate::checks::places;
+use literal::MOST_TERMS;
+use literal::MOST_TOTAL;
 
 // The place of the first of n words that equals one, or n.
 fn find(words: [u32; 128], n: usize, word: u32) -> usize
@@ -34,13 +36,13 @@ pub fn lay(a: Adding, weight: u32, word: u32, sum: u64) -> Adding
     let k = find(a.words, n, word);
     if k < n {
         let w = a.weights[k];
-        if 4294967295 - w < weight {
+        if MOST_TOTAL - w < weight {
             return new;
         }
         new.weights[k] = w + weight;
         return new;
     }
-    if n < 128 {
+    if n < MOST_TERMS {
         new.weights[n] = weight;
         new.words[n] = word;
         new.count = n + 1;

@@ -20,7 +20,14 @@ use checks::places;
 use laying::lay;
 use literal::GREATEST;
 use literal::Literal;
+use literal::MOST_BOUNDS;
+use literal::MOST_NODES;
+use literal::MOST_TERMS;
+use literal::OUTPUTS;
 use literal::Term;
+
+// The greatest total, in the width in which weights are summed.
+const MOST_SUM: u64 = 4294967295;
 
 // A planner's own part: F; the pending terms, their weights and connection words, and how many there are; the total built already;
 // the outputs and how many there are; the nodes, the bound records, the clauses written and the numbers drawn.
@@ -176,25 +183,25 @@ pub fn damaged(p: Party) -> bool
     if !in_range(p.first) {
         return true;
     }
-    if 128 < p.count {
+    if MOST_TERMS < p.count {
         return true;
     }
     if any_bad(p) {
         return true;
     }
-    if 4294967295 < total(p) {
+    if MOST_SUM < total(p) {
         return true;
     }
-    if 48 < p.len {
+    if OUTPUTS < p.len {
         return true;
     }
     if any_bad_output(p) {
         return true;
     }
-    if 4096 < p.nodes {
+    if MOST_NODES < p.nodes as usize {
         return true;
     }
-    if 1024 < p.bounds {
+    if MOST_BOUNDS < p.bounds as usize {
         return true;
     }
     GREATEST < p.drawn
@@ -229,6 +236,7 @@ pub struct Adding {
     pub full: bool,
 }
 
+// A run that has added nothing yet.
 pub fn begin(state: State) -> Adding
     ensures { λ r. ⌜ r ≡ beginOf state ⌝ }
 {
@@ -261,12 +269,12 @@ pub fn step(a: Adding, t: Term, i: usize) -> Adding
         new.place = i;
         return new;
     }
-    if 4294967295 < new.sum {
+    if MOST_SUM < new.sum {
         return new;
     }
     let weight = t.weight;
     let sum = a.sum + weight as u64;
-    if 4294967295 < sum {
+    if MOST_SUM < sum {
         new.sum = sum;
         return new;
     }
@@ -292,7 +300,7 @@ pub fn finish(a: Adding, state: State) -> Added
             state,
         };
     }
-    if 4294967295 < a.sum {
+    if MOST_SUM < a.sum {
         return Added {
             reply: Reply::SumTooLarge,
             state,

@@ -28,7 +28,10 @@ bad-node-requires : tie.Need-bad-node-requires Inv-loop μ-loop
 bad-node-requires c κs = omega arith
 
 returns-2 : tie.Need-returns-2 Inv-loop μ-loop
-returns-2 c = nodes-are _ _ _ (one-damaged (badNode (c .before .before .before .before .before .before .args .table .now)) 8 _ _ (c .before .before .before .before .if1 .left) (c .before .before .before .loop .i) (omega arith) (sym (c .before .bad-node .ensures) ∙ c .if2 .taken))
+returns-2 c =
+    let s = c .before .before .before .before .before .before in
+    let at-loop = c .before .before .before in
+    nodes-are _ _ _ (one-damaged (badNode (s .args .table .now)) 8 _ _ (c .before .before .before .before .if1 .left) (at-loop .loop .i) (omega arith) (sym (c .before .bad-node .ensures) ∙ c .if2 .taken))
 
 add-i : tie.Need-add-i Inv-loop μ-loop
 add-i c = search needs
@@ -37,7 +40,10 @@ loop-less : tie.Need-loop-less Inv-loop μ-loop
 loop-less c = search needs
 
 loop-again : tie.Need-loop-again Inv-loop μ-loop
-loop-again c = (omega arith, below-more (badNode (c .before .before .before .before .before .before .args .table .now)) (c .before .before .before .loop .i) (c .before .before .before .loop .inv .1) (sym (c .before .bad-node .ensures) ∙ c .if2 .left))
+loop-again c =
+    let s = c .before .before .before .before .before .before in
+    let at-loop = c .before .before .before in
+    (omega arith, below-more (badNode (s .args .table .now)) (at-loop .loop .i) (at-loop .loop .inv .1) (sym (c .before .bad-node .ensures) ∙ c .if2 .left))
 
 returns-3 : tie.Need-returns-3 Inv-loop μ-loop
 returns-3 c = nodes-are _ _ _ (none-damaged (badNode (c .before .before .before .before .args .table .now)) 8 _ _ (c .before .before .if1 .left) (c .before .loop .i) (omega arith) (omega arith) (c .before .loop .inv .1))

@@ -34,8 +34,14 @@ any-bad-output-requires c κs = search needs
 returns-6 : tie.Need-returns-6
 returns-6 c = search output-bad
 
+cast-if7 : tie.Need-cast-if7
+cast-if7 c = search needs
+
 returns-7 : tie.Need-returns-7
 returns-7 c = search nodes-over
+
+cast-if8 : tie.Need-cast-if8
+cast-if8 c = search needs
 
 returns-8 : tie.Need-returns-8
 returns-8 c = search bounds-over
@@ -64,6 +70,8 @@ damaged-spec =
     returns-5
     any-bad-output-requires
     returns-6
+    cast-if7
     returns-7
+    cast-if8
     returns-8
     returns-9)
