@@ -2,3 +2,5 @@
 pub mod Buffer
 pub mod Literals
 pub mod Emission
+pub mod Frame
+pub mod Bounding
