@@ -1,0 +1,248 @@
+// The clauses of a node's sum or carry in a direction, from a constant table of signs, written into the buffer as one batch.
+ghost use mathlib.Core.Path.{_≡_};
+ghost use Prim.Native.Nat.{_+_, _≤_};
+ghost use lib.ListN.{length};
+ghost use lib.Seq.{sets};
+ghost use Rattle.model.specs.Signs.{half, full, sum, carry, iff, onlyif};
+ghost use Rattle.model.specs.Words.{buffer, flat, lay, word};
+ghost use Rattle.gates.specs.Codes.{codeLit, flip, gateBy, signBy};
+ghost use Rattle.gates.specs.Packed.{gateWords, rowA, rowAB, rowABC, rowAC, rowB, rowBC};
+ghost use Rattle.gates.specs.declared.Lits.{Lits};
+
+// The literals of a gate, those of a, b, c and the bit's own variable: each twice its variable, and 1 more where it is negated.
+pub struct Lits {
+    pub a: u32,
+    pub b: u32,
+    pub c: u32,
+    pub own: u32,
+}
+
+// The signs: a row of four hex digits for each clause, of a, b, c and the bit's own variable. 0 absent, 1 as it stands, 2 negated.
+const HALF_SUM_IF: u64 = 0x2101_1201;
+
+const HALF_SUM_ONLY_IF: u64 = 0x1102_2202;
+
+const HALF_CARRY_IF: u64 = 0x2201;
+
+const HALF_CARRY_ONLY_IF: u64 = 0x1002_0102;
+
+const FULL_SUM_IF: u64 = 0x2221_2111_1211_1121;
+
+const FULL_SUM_ONLY_IF: u64 = 0x1112_1222_2122_2212;
+
+const FULL_CARRY_IF: u64 = 0x0221_2021_2201;
+
+const FULL_CARRY_ONLY_IF: u64 = 0x0112_1012_1102;
+
+// The word of a literal.
+fn word_of(code: u32) -> i32
+    ensures { λ r. ⌜ r ≡ word (codeLit code) ⌝ }
+{
+    let half = (code / 2) as i32;
+    if code % 2 == 0 { half } else { -half }
+}
+
+// The negated literal.
+fn flipped(code: u32) -> u32
+    ensures { λ r. ⌜ r ≡ flip code ⌝ }
+{
+    if code % 2 == 0 { code + 1 } else { code - 1 }
+}
+
+// The word of a literal at the sign in the last hex digit.
+fn signed_word(signs: u64, code: u32) -> i32
+    ensures { λ r. ⌜ r ≡ word (signBy signs code) ⌝ }
+{
+    if signs % 16 == 1 {
+        return word_of(code);
+    }
+    word_of(flipped(code))
+}
+
+// The clauses of one row each, by the literals beside the bit's own. The room is tested by the caller, once for the gate.
+fn row_a(clauses: &mut [i32], at: usize, signs: u64, l: Lits)
+    requires { ⌜ at + 3 ≤ length (now clauses) ⌝ }
+    ensures { λ _. ⌜ now (clauses .exit) ≡ sets (now (clauses .entry)) at (rowA signs l) ⌝ }
+{
+    clauses[at] = signed_word(signs / 0x1000, l.a);
+    clauses[at + 1] = signed_word(signs, l.own);
+    clauses[at + 2] = 0;
+}
+
+fn row_b(clauses: &mut [i32], at: usize, signs: u64, l: Lits)
+    requires { ⌜ at + 3 ≤ length (now clauses) ⌝ }
+    ensures { λ _. ⌜ now (clauses .exit) ≡ sets (now (clauses .entry)) at (rowB signs l) ⌝ }
+{
+    clauses[at] = signed_word(signs / 0x100, l.b);
+    clauses[at + 1] = signed_word(signs, l.own);
+    clauses[at + 2] = 0;
+}
+
+fn row_ab(clauses: &mut [i32], at: usize, signs: u64, l: Lits)
+    requires { ⌜ at + 4 ≤ length (now clauses) ⌝ }
+    ensures { λ _. ⌜ now (clauses .exit) ≡ sets (now (clauses .entry)) at (rowAB signs l) ⌝ }
+{
+    clauses[at] = signed_word(signs / 0x1000, l.a);
+    clauses[at + 1] = signed_word(signs / 0x100, l.b);
+    clauses[at + 2] = signed_word(signs, l.own);
+    clauses[at + 3] = 0;
+}
+
+fn row_ac(clauses: &mut [i32], at: usize, signs: u64, l: Lits)
+    requires { ⌜ at + 4 ≤ length (now clauses) ⌝ }
+    ensures { λ _. ⌜ now (clauses .exit) ≡ sets (now (clauses .entry)) at (rowAC signs l) ⌝ }
+{
+    clauses[at] = signed_word(signs / 0x1000, l.a);
+    clauses[at + 1] = signed_word(signs / 0x10, l.c);
+    clauses[at + 2] = signed_word(signs, l.own);
+    clauses[at + 3] = 0;
+}
+
+fn row_bc(clauses: &mut [i32], at: usize, signs: u64, l: Lits)
+    requires { ⌜ at + 4 ≤ length (now clauses) ⌝ }
+    ensures { λ _. ⌜ now (clauses .exit) ≡ sets (now (clauses .entry)) at (rowBC signs l) ⌝ }
+{
+    clauses[at] = signed_word(signs / 0x100, l.b);
+    clauses[at + 1] = signed_word(signs / 0x10, l.c);
+    clauses[at + 2] = signed_word(signs, l.own);
+    clauses[at + 3] = 0;
+}
+
+fn row_abc(clauses: &mut [i32], at: usize, signs: u64, l: Lits)
+    requires { ⌜ at + 5 ≤ length (now clauses) ⌝ }
+    ensures { λ _. ⌜ now (clauses .exit) ≡ sets (now (clauses .entry)) at (rowABC signs l) ⌝ }
+{
+    clauses[at] = signed_word(signs / 0x1000, l.a);
+    clauses[at + 1] = signed_word(signs / 0x100, l.b);
+    clauses[at + 2] = signed_word(signs / 0x10, l.c);
+    clauses[at + 3] = signed_word(signs, l.own);
+    clauses[at + 4] = 0;
+}
+
+// The eight gates, each from its constant, so that the signs fold away where it is compiled.
+fn half_sum_if(clauses: &mut [i32], at: usize, l: Lits)
+    requires { ⌜ at + 8 ≤ length (now clauses) ⌝ }
+    ensures { λ _. ⌜ now (clauses .exit) ≡ sets (now (clauses .entry)) at (gateWords half sum iff l) ⌝ }
+{
+    row_ab(clauses, at, HALF_SUM_IF / 0x1_0000, l);
+    row_ab(clauses, at + 4, HALF_SUM_IF, l);
+}
+
+fn half_sum_only_if(clauses: &mut [i32], at: usize, l: Lits)
+    requires { ⌜ at + 8 ≤ length (now clauses) ⌝ }
+    ensures { λ _. ⌜ now (clauses .exit) ≡ sets (now (clauses .entry)) at (gateWords half sum onlyif l) ⌝ }
+{
+    row_ab(clauses, at, HALF_SUM_ONLY_IF / 0x1_0000, l);
+    row_ab(clauses, at + 4, HALF_SUM_ONLY_IF, l);
+}
+
+fn half_carry_if(clauses: &mut [i32], at: usize, l: Lits)
+    requires { ⌜ at + 4 ≤ length (now clauses) ⌝ }
+    ensures { λ _. ⌜ now (clauses .exit) ≡ sets (now (clauses .entry)) at (gateWords half carry iff l) ⌝ }
+{
+    row_ab(clauses, at, HALF_CARRY_IF, l);
+}
+
+fn half_carry_only_if(clauses: &mut [i32], at: usize, l: Lits)
+    requires { ⌜ at + 6 ≤ length (now clauses) ⌝ }
+    ensures { λ _. ⌜ now (clauses .exit) ≡ sets (now (clauses .entry)) at (gateWords half carry onlyif l) ⌝ }
+{
+    row_a(clauses, at, HALF_CARRY_ONLY_IF / 0x1_0000, l);
+    row_b(clauses, at + 3, HALF_CARRY_ONLY_IF, l);
+}
+
+fn full_sum_if(clauses: &mut [i32], at: usize, l: Lits)
+    requires { ⌜ at + 20 ≤ length (now clauses) ⌝ }
+    ensures { λ _. ⌜ now (clauses .exit) ≡ sets (now (clauses .entry)) at (gateWords full sum iff l) ⌝ }
+{
+    row_abc(clauses, at, FULL_SUM_IF / 0x1_0000_0000_0000, l);
+    row_abc(clauses, at + 5, FULL_SUM_IF / 0x1_0000_0000, l);
+    row_abc(clauses, at + 10, FULL_SUM_IF / 0x1_0000, l);
+    row_abc(clauses, at + 15, FULL_SUM_IF, l);
+}
+
+fn full_sum_only_if(clauses: &mut [i32], at: usize, l: Lits)
+    requires { ⌜ at + 20 ≤ length (now clauses) ⌝ }
+    ensures { λ _. ⌜ now (clauses .exit) ≡ sets (now (clauses .entry)) at (gateWords full sum onlyif l) ⌝ }
+{
+    row_abc(clauses, at, FULL_SUM_ONLY_IF / 0x1_0000_0000_0000, l);
+    row_abc(clauses, at + 5, FULL_SUM_ONLY_IF / 0x1_0000_0000, l);
+    row_abc(clauses, at + 10, FULL_SUM_ONLY_IF / 0x1_0000, l);
+    row_abc(clauses, at + 15, FULL_SUM_ONLY_IF, l);
+}
+
+fn full_carry_if(clauses: &mut [i32], at: usize, l: Lits)
+    requires { ⌜ at + 12 ≤ length (now clauses) ⌝ }
+    ensures { λ _. ⌜ now (clauses .exit) ≡ sets (now (clauses .entry)) at (gateWords full carry iff l) ⌝ }
+{
+    row_bc(clauses, at, FULL_CARRY_IF / 0x1_0000_0000, l);
+    row_ac(clauses, at + 4, FULL_CARRY_IF / 0x1_0000, l);
+    row_ab(clauses, at + 8, FULL_CARRY_IF, l);
+}
+
+fn full_carry_only_if(clauses: &mut [i32], at: usize, l: Lits)
+    requires { ⌜ at + 12 ≤ length (now clauses) ⌝ }
+    ensures { λ _. ⌜ now (clauses .exit) ≡ sets (now (clauses .entry)) at (gateWords full carry onlyif l) ⌝ }
+{
+    row_bc(clauses, at, FULL_CARRY_ONLY_IF / 0x1_0000_0000, l);
+    row_ac(clauses, at + 4, FULL_CARRY_ONLY_IF / 0x1_0000, l);
+    row_ab(clauses, at + 8, FULL_CARRY_ONLY_IF, l);
+}
+
+// The words of a gate's clauses, and the clauses. A gate is 4 for a full node, 2 for a carry and 1 for only-if, added up.
+fn gate_words(gate: u32) -> usize
+    ensures { λ r. ⌜ ((l : Lits) → r ≡ length (flat (gateBy gate l))) ⌝ }
+{
+    match gate {
+        0 => 8,
+        1 => 8,
+        2 => 4,
+        3 => 6,
+        4 => 20,
+        5 => 20,
+        _ => 12,
+    }
+}
+
+pub fn gate_clauses(gate: u32) -> usize
+    ensures { λ r. ⌜ ((l : Lits) → r ≡ length (gateBy gate l)) ⌝ }
+{
+    match gate {
+        0 => 2,
+        1 => 2,
+        2 => 1,
+        3 => 2,
+        4 => 4,
+        5 => 4,
+        _ => 3,
+    }
+}
+
+fn write_gate(clauses: &mut [i32], at: usize, gate: u32, l: Lits)
+    requires { ⌜ at + length (flat (gateBy gate l)) ≤ length (now clauses) ⌝ }
+    ensures { λ _. ⌜ now (clauses .exit) ≡ sets (now (clauses .entry)) at (flat (gateBy gate l)) ⌝ }
+{
+    match gate {
+        0 => half_sum_if(clauses, at, l),
+        1 => half_sum_only_if(clauses, at, l),
+        2 => half_carry_if(clauses, at, l),
+        3 => half_carry_only_if(clauses, at, l),
+        4 => full_sum_if(clauses, at, l),
+        5 => full_sum_only_if(clauses, at, l),
+        6 => full_carry_if(clauses, at, l),
+        _ => full_carry_only_if(clauses, at, l),
+    }
+}
+
+// A gate's clauses as one batch: where they fit whole they are stored, and the fill is raised in any case. A gate above 7 counts as 7.
+pub fn put_gate(clauses: &mut [i32], fill: usize, gate: u32, l: Lits) -> usize
+    ensures { λ r. ⌜ buffer r (now (clauses .exit)) ≡ lay (flat (gateBy gate l)) (buffer fill (now (clauses .entry))) ⌝ }
+{
+    let n = gate_words(gate);
+    let end = clauses::raised(fill, n);
+    if end <= clauses.len() {
+        write_gate(clauses, fill, gate, l);
+        return end;
+    }
+    end
+}
