@@ -1,24 +1,24 @@
 -- The laws of the bound steps. One induction over recording, comparing and a whole direction, and what it gives: what becomes of the
 -- clauses may be mapped, two ways to count on agree below a limit, no number falls, and where all fits the run on the lent tables is the
--- model's. And of the records: which value is found where, how many there are after, and that the table keeps its length.
--- Assumes nothing.
+-- model's. Of the records: which value is found where, how many there are after, and that the table keeps its length. And of the dry run:
+-- on a scratch table it counts what the model's work comes to. Assumes nothing.
 use mathlib.Core.Path.{_≡_, refl, sym, ap, _∙_}
 use mathlib.Core.Logic.{_⊎_, inl, inr}
 use mathlib.Core.Bool.{Bool, true, false, cond, _||_, or-assoc, or-comm}
 use mathlib.Core.List.{List, [], _∷_, _++_, append-nil, append-assoc}
 use Prim.Native.Nat.{ℕ, zero, suc, _+_, _*_, _^_, _≤_, _<_, min}
 use native.Mathlib.Omega.{arith}
-use borrow.Author.Tests.{lt-ltb, le-ltb, eq-eqb, ne-eqb}
+use borrow.Author.Tests.{lt-ltb, le-ltb, ltb-true, ltb-false, eq-eqb, ne-eqb}
 use lib.Dec.{eqb, ltb, leb·suc-suc}
 use lib.ListN.{length, getD, take, set, length-append, length-set}
 use lib.Seq.{sets, length-sets, getD-set-same, getD-set-other}
-use Rattle.model.specs.Limits.{mostFill}
+use Rattle.model.specs.Limits.{greatest, mostFill}
 use Rattle.model.specs.Logic.{Lit, pL}
 use Rattle.model.specs.Words.{clauseWords, flat, buffer, raised, Sink, putBatch, putEach}
 use Rattle.model.specs.Signs.{Dir, iff, onlyif}
 use Rattle.model.specs.Nodes.{bump}
 use Rattle.model.specs.Buckets.{Pending, ifPending, present}
-use Rattle.model.specs.Emit.{Em, emitAll}
+use Rattle.model.specs.Emit.{Em}
 use Rattle.model.specs.Compare.{outLits, comparator}
 use Rattle.model.specs.Machine.{Record, Machine, pending, recordAt, markedIn, dirPlace, findFrom, find}
 use Rattle.model.specs.Bounds.{valuesFrom, elem, missing, Work, recorded, compared, boundAll, emitted, stage, plus1, follow, Clauses}
@@ -26,7 +26,7 @@ use Rattle.model.specs.Calls.{built, known, recordsAfter, work}
 use Rattle.model.proofs.Buffer.{sets-append, layAll-fits}
 use Rattle.model.proofs.Literals.{by-test}
 use Rattle.model.proofs.Emission.{em, onSink, emit-step, emit-map, emit-length, flat-append, Fits, put-fits, bump-rises, bump-plain}
-use Rattle.model.proofs.Frame.{Counts, count, tally, tally-batch, tally-each, count-append, count-none, count-shape, count-same, comparator-shape, inUse, emit-inUse}
+use Rattle.model.proofs.Frame.{Counts, count, tally, tally-batch, tally-each, count-append, count-none, count-shape, count-same, comparator-shape, clause-length, inUse, emit-inUse}
 
 -- an encoding's state
 abbrev pub wk : {S : Type 0} → Em S → List ℕ → ℕ → Work S
@@ -189,15 +189,10 @@ abbrev pub laid : Sink → List (List Lit) → Sink
 laid s cs = record { buffer = buffer (s .buffer .fill + length (flat cs)) (sets (s .buffer .words) (s .buffer .fill) (flat cs)); clauses = s .clauses + length cs }
 
 -- each clause has a word at least
-clause-long : (c : List Lit) → 1 ≤ length (clauseWords c)
-unfolding clauseWords
-clause-long [] = omega arith
-clause-long (l ∷ ls) = omega arith
-
 flat-long : (cs : List (List Lit)) → length cs ≤ length (flat cs)
 unfolding flat
 flat-long [] = omega arith
-flat-long (c ∷ cs) = omega (arith, length-append (clauseWords c) (flat cs), flat-long cs, clause-long c)
+flat-long (c ∷ cs) = omega (arith, length-append (clauseWords c) (flat cs), flat-long cs, clause-length c)
 
 pub batch-laid : (cs : List (List Lit)) (s : Sink) → s .clauses ≤ s .buffer .fill → Fits s cs → putBatch cs s ≡ laid s cs
 unfolding raised
@@ -607,3 +602,44 @@ module _ (N : ℕ) (os ups downs : List ℕ) (t t′ : List ℕ) (h : 8 * N ≤ 
       stages-inUse cut up putBatch putEach cut-batch tally-each N os ups downs (wk (em t′ x s) bs k) h′
       ∙ ap (λ (u : List ℕ). stages up count count N os ups downs (wk (em u x (cut s)) bs k)) e
       ∙ sym (stages-inUse (λ cs. count cs (tally s)) up follow follow (λ cs ds. count-append ds cs (tally s)) (λ cs ds. count-append ds cs (tally s)) N os ups downs (wk (em t x []) bs k) h)
+
+-- numbers that are equal where either is below the word's top
+beyond : (a b : ℕ) → ((a < 0xffff_ffff) ⊎ (b < 0xffff_ffff) → a ≡ b) → ltb (greatest + 1) a ≡ ltb (greatest + 1) b
+beyond a b h = go (ltb a 0xffff_ffff) (ltb b 0xffff_ffff) refl refl
+  where
+    go : (p q : Bool) → ltb a 0xffff_ffff ≡ p → ltb b 0xffff_ffff ≡ q → ltb (greatest + 1) a ≡ ltb (greatest + 1) b
+    go true q i j = ap (ltb (greatest + 1)) (h (inl (ltb-true a 0xffff_ffff i)))
+    go false true i j = ap (ltb (greatest + 1)) (h (inr (ltb-true b 0xffff_ffff j)))
+    go false false i j = lt-ltb (greatest + 1) a (omega (arith, ltb-false a 0xffff_ffff i)) ∙ sym (lt-ltb (greatest + 1) b (omega (arith, ltb-false b 0xffff_ffff j)))
+
+-- the scratch run of an encoding's whole work: its numbers are the work's where either's next number stays below the word's top, and
+-- both go beyond the greatest number or neither does
+abbrev pub scratch : List ℕ → List ℕ → Machine → List ℕ → Sink → Work Sink
+scratch ups downs b t s = stages bump putBatch putEach (b .party .nodes) (present (b .party .outputs)) ups downs (wk (em t (b .next) s) (b .bounds) (b .party .bounds))
+
+module _ (ups downs : List ℕ) (b : Machine) (t : List ℕ) (s : Sink) (h : 8 * b .party .nodes ≤ length (b .nodes)) (h′ : 8 * b .party .nodes ≤ length t)
+    (e : take (8 * b .party .nodes) t ≡ take (8 * b .party .nodes) (b .nodes)) where
+  pub scratch-counts : (scratch ups downs b t s .em .next < 0xffff_ffff) ⊎ (work ups downs b .em .next < 0xffff_ffff)
+      → workInUse cut (b .party .nodes) (scratch ups downs b t s) ≡ workInUse (λ cs. count cs (tally s)) (b .party .nodes) (work ups downs b)
+  unfolding work
+  scratch-counts low = dry ∙ ap (workInUse (λ cs. count cs (tally s)) N) (stages-plain follow follow N os ups downs w (below low))
+    where
+      N : ℕ
+      N = b .party .nodes
+
+      os : List ℕ
+      os = present (b .party .outputs)
+
+      w : Work Clauses
+      w = wk (em (b .nodes) (b .next) []) (b .bounds) (b .party .bounds)
+
+      dry : workInUse cut N (scratch ups downs b t s) ≡ workInUse (λ cs. count cs (tally s)) N (stages bump follow follow N os ups downs w)
+      dry = dry-stages N os ups downs (b .nodes) t h h′ e s bump (b .next) (b .bounds) (b .party .bounds)
+
+      below : (scratch ups downs b t s .em .next < 0xffff_ffff) ⊎ (stages plus1 follow follow N os ups downs w .em .next < 0xffff_ffff)
+          → (stages bump follow follow N os ups downs w .em .next < 0xffff_ffff) ⊎ (stages plus1 follow follow N os ups downs w .em .next < 0xffff_ffff)
+      below (inl l) = inl (omega (arith, ap (λ (x : Work Counts). x .em .next) dry))
+      below (inr l) = inr l
+
+  pub scratch-next : ltb (greatest + 1) (scratch ups downs b t s .em .next) ≡ ltb (greatest + 1) (work ups downs b .em .next)
+  scratch-next = beyond (scratch ups downs b t s .em .next) (work ups downs b .em .next) (λ l. ap (λ (x : Work Counts). x .em .next) (scratch-counts l))

@@ -7,7 +7,7 @@ use mathlib.Core.List.{List, [], _∷_, _++_, append-nil, append-assoc}
 use mathlib.Core.Option.{Option, none, some}
 use Prim.Native.Nat.{ℕ, zero, suc, _+_, _*_, _/_, _%_, _^_, _≤_, _<_, min}
 use native.Mathlib.Omega.{arith}
-use borrow.Author.Tests.{lt-ltb, ltb-true, eqb-true}
+use borrow.Author.Tests.{lt-ltb, eqb-true}
 use lib.Dec.{eqb, ltb}
 use lib.ListN.{length, getD, take, drop, set, length-append, length-set, List·getD-append, take-append-drop}
 use lib.Seq.{sets, length-sets, set-append-left, sets-eq, length-take-le, take-at}
@@ -15,7 +15,7 @@ use Rattle.model.specs.Limits.{mostFill}
 use Rattle.model.specs.Logic.{Lit, neg}
 use Rattle.model.specs.Words.{clauseWords, flat, Buffer, raised, lay, layAll, Sink, putBatch, putEach}
 use Rattle.model.specs.Signs.{Kind, half, full, Bit, sum, carry, Dir, iff, onlyif, signs, signed, rowAt, rowsAt, gate}
-use Rattle.model.specs.Nodes.{Node, kindOf, nodeWords, inTable, putNode, putNodes, nodeAt, bitPlace, var, setVar, marked, setMark, litAt}
+use Rattle.model.specs.Nodes.{Node, nodeWords, inTable, putNode, putNodes, nodeAt, bitPlace, var, setVar, marked, setMark, litAt}
 use Rattle.model.specs.Emit.{Em, gateAt, childDir, children, takeVar, mark, write, node, byKind, emit, emitAll, reserveNode, reserve, reserveAll}
 use Rattle.model.specs.Compare.{outLit, outLits, ahead, above, higher, begins, clauseOf, compareRows, comparator}
 use Rattle.model.proofs.Buffer.{raised-twice, layAll-fill}
@@ -263,7 +263,7 @@ abbrev total : List ℕ → ℕ
 total [] = 0
 total (k ∷ ks) = suc k + total ks
 
-clause-length : (c : List Lit) → length (clauseWords c) ≡ suc (length c)
+pub clause-length : (c : List Lit) → length (clauseWords c) ≡ suc (length c)
 unfolding clauseWords
 clause-length [] = refl
 clause-length (l ∷ ls) = ap suc (clause-length ls)
