@@ -78,344 +78,135 @@ abbrev three-kids-below : ℕ → In 2 three-kids-kinds.ps
 three-kids-below t =
     and 2 three-kids-kinds.ps (falls 2 three-kids-kinds.ps _<_ μ-three-kids t) three-kids.Pre
 
-carry-bit-one-bit-requires : (t : ℕ) → carry-bit-lts.Need-one-bit-requires (
-  one-bit-below t,
-  one-bit.Post,
-) (carry-bit-at t) carry-bit.Post
+-- what `carry_bit` knows of the functions that it calls
+abbrev carry-bit-claims : ℕ → carry-bit-lts.Claims
+carry-bit-claims t = (one-bit-below t, one-bit.Post)
+
+carry-bit-one-bit-requires : (t : ℕ) → carry-bit-lts.Need-one-bit-requires (carry-bit-claims t) (carry-bit-at t) carry-bit.Post
 carry-bit-one-bit-requires t c κs = search needs
 
-carry-bit-same-length :
-    (t : ℕ) →
-    carry-bit-lts.Need-same-length (one-bit-below t, one-bit.Post) (carry-bit-at t) carry-bit.Post
+carry-bit-same-length : (t : ℕ) → carry-bit-lts.Need-same-length (carry-bit-claims t) (carry-bit-at t) carry-bit.Post
 carry-bit-same-length t c = search needs
 
-carry-bit-same-length-2 : (t : ℕ) → carry-bit-lts.Need-same-length-2 (
-  one-bit-below t,
-  one-bit.Post,
-) (carry-bit-at t) carry-bit.Post
+carry-bit-same-length-2 : (t : ℕ) → carry-bit-lts.Need-same-length-2 (carry-bit-claims t) (carry-bit-at t) carry-bit.Post
 carry-bit-same-length-2 t c = search needs
 
-carry-bit-returns :
-    (t : ℕ) →
-    carry-bit-lts.Need-returns (one-bit-below t, one-bit.Post) (carry-bit-at t) carry-bit.Post
+carry-bit-returns : (t : ℕ) → carry-bit-lts.Need-returns (carry-bit-claims t) (carry-bit-at t) carry-bit.Post
 unfolding bitOf
 carry-bit-returns t c = search needs
 
-fetch-sum-bit-requires : (t : ℕ) → fetch-lts.Need-sum-bit-requires (
-  sum-bit-below t,
-  sum-bit.Post,
-  carry-bit-below t,
-  carry-bit.Post,
-) (fetch-at t) fetch.Post
+-- what `fetch` knows of the functions that it calls
+abbrev fetch-claims : ℕ → fetch-lts.Claims
+fetch-claims t = (sum-bit-below t, sum-bit.Post, carry-bit-below t, carry-bit.Post)
+
+fetch-sum-bit-requires : (t : ℕ) → fetch-lts.Need-sum-bit-requires (fetch-claims t) (fetch-at t) fetch.Post
 fetch-sum-bit-requires t c κs = search needs
 
-fetch-same-length : (t : ℕ) → fetch-lts.Need-same-length (
-  sum-bit-below t,
-  sum-bit.Post,
-  carry-bit-below t,
-  carry-bit.Post,
-) (fetch-at t) fetch.Post
+fetch-same-length : (t : ℕ) → fetch-lts.Need-same-length (fetch-claims t) (fetch-at t) fetch.Post
 fetch-same-length t c = search needs
 
-fetch-same-length-2 : (t : ℕ) → fetch-lts.Need-same-length-2 (
-  sum-bit-below t,
-  sum-bit.Post,
-  carry-bit-below t,
-  carry-bit.Post,
-) (fetch-at t) fetch.Post
+fetch-same-length-2 : (t : ℕ) → fetch-lts.Need-same-length-2 (fetch-claims t) (fetch-at t) fetch.Post
 fetch-same-length-2 t c = search needs
 
-fetch-returns : (t : ℕ) → fetch-lts.Need-returns (
-  sum-bit-below t,
-  sum-bit.Post,
-  carry-bit-below t,
-  carry-bit.Post,
-) (fetch-at t) fetch.Post
+fetch-returns : (t : ℕ) → fetch-lts.Need-returns (fetch-claims t) (fetch-at t) fetch.Post
 fetch-returns t c = search fetch-sum
 
-fetch-carry-bit-requires : (t : ℕ) → fetch-lts.Need-carry-bit-requires (
-  sum-bit-below t,
-  sum-bit.Post,
-  carry-bit-below t,
-  carry-bit.Post,
-) (fetch-at t) fetch.Post
+fetch-carry-bit-requires : (t : ℕ) → fetch-lts.Need-carry-bit-requires (fetch-claims t) (fetch-at t) fetch.Post
 fetch-carry-bit-requires t c κs = search needs
 
-fetch-same-length-3 : (t : ℕ) → fetch-lts.Need-same-length-3 (
-  sum-bit-below t,
-  sum-bit.Post,
-  carry-bit-below t,
-  carry-bit.Post,
-) (fetch-at t) fetch.Post
+fetch-same-length-3 : (t : ℕ) → fetch-lts.Need-same-length-3 (fetch-claims t) (fetch-at t) fetch.Post
 fetch-same-length-3 t c = search needs
 
-fetch-same-length-4 : (t : ℕ) → fetch-lts.Need-same-length-4 (
-  sum-bit-below t,
-  sum-bit.Post,
-  carry-bit-below t,
-  carry-bit.Post,
-) (fetch-at t) fetch.Post
+fetch-same-length-4 : (t : ℕ) → fetch-lts.Need-same-length-4 (fetch-claims t) (fetch-at t) fetch.Post
 fetch-same-length-4 t c = search needs
 
-fetch-returns-2 : (t : ℕ) → fetch-lts.Need-returns-2 (
-  sum-bit-below t,
-  sum-bit.Post,
-  carry-bit-below t,
-  carry-bit.Post,
-) (fetch-at t) fetch.Post
+fetch-returns-2 : (t : ℕ) → fetch-lts.Need-returns-2 (fetch-claims t) (fetch-at t) fetch.Post
 fetch-returns-2 t c = search fetch-carry
 
-fetch-returns-3 : (t : ℕ) → fetch-lts.Need-returns-3 (
-  sum-bit-below t,
-  sum-bit.Post,
-  carry-bit-below t,
-  carry-bit.Post,
-) (fetch-at t) fetch.Post
+fetch-returns-3 : (t : ℕ) → fetch-lts.Need-returns-3 (fetch-claims t) (fetch-at t) fetch.Post
 fetch-returns-3 t c = search fetch-lit
 
-fetch-returns-4 : (t : ℕ) → fetch-lts.Need-returns-4 (
-  sum-bit-below t,
-  sum-bit.Post,
-  carry-bit-below t,
-  carry-bit.Post,
-) (fetch-at t) fetch.Post
+fetch-returns-4 : (t : ℕ) → fetch-lts.Need-returns-4 (fetch-claims t) (fetch-at t) fetch.Post
 fetch-returns-4 t c = search fetch-out
 
-one-bit-claim-requires : (t : ℕ) → one-bit-lts.Need-claim-requires (
-  claim-reads.Asked,
-  claim-reads.Learnt,
-  kids-of-reads.Asked,
-  kids-of-reads.Learnt,
-  started-reads.Asked,
-  started-reads.Learnt,
-  child-dir-reads.Asked,
-  child-dir-reads.Learnt,
-  three-kids-below t,
-  three-kids.Post,
-  finished-reads.Asked,
-  finished-reads.Learnt,
-) (one-bit-at t) one-bit.Post
+-- what `one_bit` knows of the functions that it calls
+abbrev one-bit-claims : ℕ → one-bit-lts.Claims
+one-bit-claims t = (claim-reads.Asked, claim-reads.Learnt, kids-of-reads.Asked, kids-of-reads.Learnt, started-reads.Asked, started-reads.Learnt, child-dir-reads.Asked, child-dir-reads.Learnt, three-kids-below t, three-kids.Post, finished-reads.Asked, finished-reads.Learnt)
+
+one-bit-claim-requires : (t : ℕ) → one-bit-lts.Need-claim-requires (one-bit-claims t) (one-bit-at t) one-bit.Post
 one-bit-claim-requires t c κs = search needs
 
-one-bit-same-length : (t : ℕ) → one-bit-lts.Need-same-length (
-  claim-reads.Asked,
-  claim-reads.Learnt,
-  kids-of-reads.Asked,
-  kids-of-reads.Learnt,
-  started-reads.Asked,
-  started-reads.Learnt,
-  child-dir-reads.Asked,
-  child-dir-reads.Learnt,
-  three-kids-below t,
-  three-kids.Post,
-  finished-reads.Asked,
-  finished-reads.Learnt,
-) (one-bit-at t) one-bit.Post
+one-bit-same-length : (t : ℕ) → one-bit-lts.Need-same-length (one-bit-claims t) (one-bit-at t) one-bit.Post
 one-bit-same-length t c = search needs
 
-one-bit-returns : (t : ℕ) → one-bit-lts.Need-returns (
-  claim-reads.Asked,
-  claim-reads.Learnt,
-  kids-of-reads.Asked,
-  kids-of-reads.Learnt,
-  started-reads.Asked,
-  started-reads.Learnt,
-  child-dir-reads.Asked,
-  child-dir-reads.Learnt,
-  three-kids-below t,
-  three-kids.Post,
-  finished-reads.Asked,
-  finished-reads.Learnt,
-) (one-bit-at t) one-bit.Post
+one-bit-returns : (t : ℕ) → one-bit-lts.Need-returns (one-bit-claims t) (one-bit-at t) one-bit.Post
 one-bit-returns t c = search node-idle
 
-one-bit-kids-of-requires : (t : ℕ) → one-bit-lts.Need-kids-of-requires (
-  claim-reads.Asked,
-  claim-reads.Learnt,
-  kids-of-reads.Asked,
-  kids-of-reads.Learnt,
-  started-reads.Asked,
-  started-reads.Learnt,
-  child-dir-reads.Asked,
-  child-dir-reads.Learnt,
-  three-kids-below t,
-  three-kids.Post,
-  finished-reads.Asked,
-  finished-reads.Learnt,
-) (one-bit-at t) one-bit.Post
+one-bit-kids-of-requires : (t : ℕ) → one-bit-lts.Need-kids-of-requires (one-bit-claims t) (one-bit-at t) one-bit.Post
 one-bit-kids-of-requires t c κs = search needs
 
-one-bit-started-requires : (t : ℕ) → one-bit-lts.Need-started-requires (
-  claim-reads.Asked,
-  claim-reads.Learnt,
-  kids-of-reads.Asked,
-  kids-of-reads.Learnt,
-  started-reads.Asked,
-  started-reads.Learnt,
-  child-dir-reads.Asked,
-  child-dir-reads.Learnt,
-  three-kids-below t,
-  three-kids.Post,
-  finished-reads.Asked,
-  finished-reads.Learnt,
-) (one-bit-at t) one-bit.Post
+one-bit-started-requires : (t : ℕ) → one-bit-lts.Need-started-requires (one-bit-claims t) (one-bit-at t) one-bit.Post
 one-bit-started-requires t c κs = search needs
 
-one-bit-child-dir-requires : (t : ℕ) → one-bit-lts.Need-child-dir-requires (
-  claim-reads.Asked,
-  claim-reads.Learnt,
-  kids-of-reads.Asked,
-  kids-of-reads.Learnt,
-  started-reads.Asked,
-  started-reads.Learnt,
-  child-dir-reads.Asked,
-  child-dir-reads.Learnt,
-  three-kids-below t,
-  three-kids.Post,
-  finished-reads.Asked,
-  finished-reads.Learnt,
-) (one-bit-at t) one-bit.Post
+one-bit-child-dir-requires : (t : ℕ) → one-bit-lts.Need-child-dir-requires (one-bit-claims t) (one-bit-at t) one-bit.Post
 one-bit-child-dir-requires t c κs = search needs
 
-one-bit-three-kids-requires : (t : ℕ) → one-bit-lts.Need-three-kids-requires (
-  claim-reads.Asked,
-  claim-reads.Learnt,
-  kids-of-reads.Asked,
-  kids-of-reads.Learnt,
-  started-reads.Asked,
-  started-reads.Learnt,
-  child-dir-reads.Asked,
-  child-dir-reads.Learnt,
-  three-kids-below t,
-  three-kids.Post,
-  finished-reads.Asked,
-  finished-reads.Learnt,
-) (one-bit-at t) one-bit.Post
+one-bit-three-kids-requires : (t : ℕ) → one-bit-lts.Need-three-kids-requires (one-bit-claims t) (one-bit-at t) one-bit.Post
 one-bit-three-kids-requires t c κs = search needs
 
-one-bit-finished-requires : (t : ℕ) → one-bit-lts.Need-finished-requires (
-  claim-reads.Asked,
-  claim-reads.Learnt,
-  kids-of-reads.Asked,
-  kids-of-reads.Learnt,
-  started-reads.Asked,
-  started-reads.Learnt,
-  child-dir-reads.Asked,
-  child-dir-reads.Learnt,
-  three-kids-below t,
-  three-kids.Post,
-  finished-reads.Asked,
-  finished-reads.Learnt,
-) (one-bit-at t) one-bit.Post
+one-bit-finished-requires : (t : ℕ) → one-bit-lts.Need-finished-requires (one-bit-claims t) (one-bit-at t) one-bit.Post
 one-bit-finished-requires t c κs = search needs
 
-one-bit-same-length-2 : (t : ℕ) → one-bit-lts.Need-same-length-2 (
-  claim-reads.Asked,
-  claim-reads.Learnt,
-  kids-of-reads.Asked,
-  kids-of-reads.Learnt,
-  started-reads.Asked,
-  started-reads.Learnt,
-  child-dir-reads.Asked,
-  child-dir-reads.Learnt,
-  three-kids-below t,
-  three-kids.Post,
-  finished-reads.Asked,
-  finished-reads.Learnt,
-) (one-bit-at t) one-bit.Post
+one-bit-same-length-2 : (t : ℕ) → one-bit-lts.Need-same-length-2 (one-bit-claims t) (one-bit-at t) one-bit.Post
 one-bit-same-length-2 t c = search needs
 
-one-bit-same-length-3 : (t : ℕ) → one-bit-lts.Need-same-length-3 (
-  claim-reads.Asked,
-  claim-reads.Learnt,
-  kids-of-reads.Asked,
-  kids-of-reads.Learnt,
-  started-reads.Asked,
-  started-reads.Learnt,
-  child-dir-reads.Asked,
-  child-dir-reads.Learnt,
-  three-kids-below t,
-  three-kids.Post,
-  finished-reads.Asked,
-  finished-reads.Learnt,
-) (one-bit-at t) one-bit.Post
+one-bit-same-length-3 : (t : ℕ) → one-bit-lts.Need-same-length-3 (one-bit-claims t) (one-bit-at t) one-bit.Post
 one-bit-same-length-3 t c = search needs
 
-one-bit-returns-2 : (t : ℕ) → one-bit-lts.Need-returns-2 (
-  claim-reads.Asked,
-  claim-reads.Learnt,
-  kids-of-reads.Asked,
-  kids-of-reads.Learnt,
-  started-reads.Asked,
-  started-reads.Learnt,
-  child-dir-reads.Asked,
-  child-dir-reads.Learnt,
-  three-kids-below t,
-  three-kids.Post,
-  finished-reads.Asked,
-  finished-reads.Learnt,
-) (one-bit-at t) one-bit.Post
+one-bit-returns-2 : (t : ℕ) → one-bit-lts.Need-returns-2 (one-bit-claims t) (one-bit-at t) one-bit.Post
 one-bit-returns-2 t c =
     let kids = c .before .before .before .before .before .before .before in
     let begin = kids .before .before .before .before .before .before in
     one-busy _ _ _ _ _ _ _ _ _ _ _ _ _ _ _ _ _ _ (begin .before .before .before .before .before .claim .ensures) (begin .before .before .before .before .if1 .left) (begin .before .before .kids-of .ensures) (begin .started .ensures)
     (kids .before .child-dir .ensures) (kids .three-kids .ensures) (c .before .finished .ensures)
 
-sum-bit-one-bit-requires : (t : ℕ) → sum-bit-lts.Need-one-bit-requires (
-  one-bit-below t,
-  one-bit.Post,
-) (sum-bit-at t) sum-bit.Post
+-- what `sum_bit` knows of the functions that it calls
+abbrev sum-bit-claims : ℕ → sum-bit-lts.Claims
+sum-bit-claims t = (one-bit-below t, one-bit.Post)
+
+sum-bit-one-bit-requires : (t : ℕ) → sum-bit-lts.Need-one-bit-requires (sum-bit-claims t) (sum-bit-at t) sum-bit.Post
 sum-bit-one-bit-requires t c κs = search needs
 
-sum-bit-same-length :
-    (t : ℕ) →
-    sum-bit-lts.Need-same-length (one-bit-below t, one-bit.Post) (sum-bit-at t) sum-bit.Post
+sum-bit-same-length : (t : ℕ) → sum-bit-lts.Need-same-length (sum-bit-claims t) (sum-bit-at t) sum-bit.Post
 sum-bit-same-length t c = search needs
 
-sum-bit-same-length-2 :
-    (t : ℕ) →
-    sum-bit-lts.Need-same-length-2 (one-bit-below t, one-bit.Post) (sum-bit-at t) sum-bit.Post
+sum-bit-same-length-2 : (t : ℕ) → sum-bit-lts.Need-same-length-2 (sum-bit-claims t) (sum-bit-at t) sum-bit.Post
 sum-bit-same-length-2 t c = search needs
 
-sum-bit-returns :
-    (t : ℕ) → sum-bit-lts.Need-returns (one-bit-below t, one-bit.Post) (sum-bit-at t) sum-bit.Post
+sum-bit-returns : (t : ℕ) → sum-bit-lts.Need-returns (sum-bit-claims t) (sum-bit-at t) sum-bit.Post
 unfolding bitOf
 sum-bit-returns t c = search needs
 
-three-kids-fetch-requires : (t : ℕ) → three-kids-lts.Need-fetch-requires (
-  fetch-below t,
-  fetch.Post,
-) (three-kids-at t) three-kids.Post
+-- what `three_kids` knows of the functions that it calls
+abbrev three-kids-claims : ℕ → three-kids-lts.Claims
+three-kids-claims t = (fetch-below t, fetch.Post)
+
+three-kids-fetch-requires : (t : ℕ) → three-kids-lts.Need-fetch-requires (three-kids-claims t) (three-kids-at t) three-kids.Post
 three-kids-fetch-requires t c κs = search needs
 
-three-kids-fetch-requires-2 : (t : ℕ) → three-kids-lts.Need-fetch-requires-2 (
-  fetch-below t,
-  fetch.Post,
-) (three-kids-at t) three-kids.Post
+three-kids-fetch-requires-2 : (t : ℕ) → three-kids-lts.Need-fetch-requires-2 (three-kids-claims t) (three-kids-at t) three-kids.Post
 three-kids-fetch-requires-2 t c κs = search needs
 
-three-kids-fetch-requires-3 : (t : ℕ) → three-kids-lts.Need-fetch-requires-3 (
-  fetch-below t,
-  fetch.Post,
-) (three-kids-at t) three-kids.Post
+three-kids-fetch-requires-3 : (t : ℕ) → three-kids-lts.Need-fetch-requires-3 (three-kids-claims t) (three-kids-at t) three-kids.Post
 three-kids-fetch-requires-3 t c κs = search needs
 
-three-kids-same-length :
-    (t : ℕ) →
-    three-kids-lts.Need-same-length (fetch-below t, fetch.Post) (three-kids-at t) three-kids.Post
+three-kids-same-length : (t : ℕ) → three-kids-lts.Need-same-length (three-kids-claims t) (three-kids-at t) three-kids.Post
 three-kids-same-length t c = search needs
 
-three-kids-same-length-2 :
-    (t : ℕ) →
-    three-kids-lts.Need-same-length-2
-    (fetch-below t, fetch.Post)
-    (three-kids-at t)
-    three-kids.Post
+three-kids-same-length-2 : (t : ℕ) → three-kids-lts.Need-same-length-2 (three-kids-claims t) (three-kids-at t) three-kids.Post
 three-kids-same-length-2 t c = search needs
 
-three-kids-returns :
-    (t : ℕ) →
-    three-kids-lts.Need-returns (fetch-below t, fetch.Post) (three-kids-at t) three-kids.Post
+three-kids-returns : (t : ℕ) → three-kids-lts.Need-returns (three-kids-claims t) (three-kids-at t) three-kids.Post
 three-kids-returns t c = search in-order
 
 pub +carry-bit+fetch+one-bit+sum-bit+three-kids-spec : {M : Type 1} → statement M

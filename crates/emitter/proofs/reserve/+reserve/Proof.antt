@@ -23,209 +23,60 @@ reserve-at t = and 1 reserve-kinds.ps (is 1 reserve-kinds.ps μ-reserve t) reser
 abbrev reserve-below : ℕ → In 1 reserve-kinds.ps
 reserve-below t = and 1 reserve-kinds.ps (falls 1 reserve-kinds.ps _<_ μ-reserve t) reserve.Pre
 
-reserve-returns : (t : ℕ) → reserve-lts.Need-returns (
-  complete-reads.Asked,
-  complete-reads.Learnt,
-  kids-of-reads.Asked,
-  kids-of-reads.Learnt,
-  take-var-reads.Asked,
-  take-var-reads.Learnt,
-  reserve-below t,
-  reserve.Post,
-) (reserve-at t) reserve.Post
+-- what `reserve` knows of the functions that it calls
+abbrev reserve-claims : ℕ → reserve-lts.Claims
+reserve-claims t = (complete-reads.Asked, complete-reads.Learnt, kids-of-reads.Asked, kids-of-reads.Learnt, take-var-reads.Asked, take-var-reads.Learnt, reserve-below t, reserve.Post)
+
+reserve-returns : (t : ℕ) → reserve-lts.Need-returns (reserve-claims t) (reserve-at t) reserve.Post
 reserve-returns t c = search reserve-lit
 
-reserve-cast-at : (t : ℕ) → reserve-lts.Need-cast-at (
-  complete-reads.Asked,
-  complete-reads.Learnt,
-  kids-of-reads.Asked,
-  kids-of-reads.Learnt,
-  take-var-reads.Asked,
-  take-var-reads.Learnt,
-  reserve-below t,
-  reserve.Post,
-) (reserve-at t) reserve.Post
+reserve-cast-at : (t : ℕ) → reserve-lts.Need-cast-at (reserve-claims t) (reserve-at t) reserve.Post
 reserve-cast-at t c = search needs
 
-reserve-mul-at : (t : ℕ) → reserve-lts.Need-mul-at (
-  complete-reads.Asked,
-  complete-reads.Learnt,
-  kids-of-reads.Asked,
-  kids-of-reads.Learnt,
-  take-var-reads.Asked,
-  take-var-reads.Learnt,
-  reserve-below t,
-  reserve.Post,
-) (reserve-at t) reserve.Post
+reserve-mul-at : (t : ℕ) → reserve-lts.Need-mul-at (reserve-claims t) (reserve-at t) reserve.Post
 reserve-mul-at t c = search needs
 
-reserve-add-if3 : (t : ℕ) → reserve-lts.Need-add-if3 (
-  complete-reads.Asked,
-  complete-reads.Learnt,
-  kids-of-reads.Asked,
-  kids-of-reads.Learnt,
-  take-var-reads.Asked,
-  take-var-reads.Learnt,
-  reserve-below t,
-  reserve.Post,
-) (reserve-at t) reserve.Post
+reserve-add-if3 : (t : ℕ) → reserve-lts.Need-add-if3 (reserve-claims t) (reserve-at t) reserve.Post
 reserve-add-if3 t c = search needs
 
-reserve-complete-requires : (t : ℕ) → reserve-lts.Need-complete-requires (
-  complete-reads.Asked,
-  complete-reads.Learnt,
-  kids-of-reads.Asked,
-  kids-of-reads.Learnt,
-  take-var-reads.Asked,
-  take-var-reads.Learnt,
-  reserve-below t,
-  reserve.Post,
-) (reserve-at t) reserve.Post
+reserve-complete-requires : (t : ℕ) → reserve-lts.Need-complete-requires (reserve-claims t) (reserve-at t) reserve.Post
 reserve-complete-requires t c κs = search needs
 
-reserve-same-length : (t : ℕ) → reserve-lts.Need-same-length (
-  complete-reads.Asked,
-  complete-reads.Learnt,
-  kids-of-reads.Asked,
-  kids-of-reads.Learnt,
-  take-var-reads.Asked,
-  take-var-reads.Learnt,
-  reserve-below t,
-  reserve.Post,
-) (reserve-at t) reserve.Post
+reserve-same-length : (t : ℕ) → reserve-lts.Need-same-length (reserve-claims t) (reserve-at t) reserve.Post
 reserve-same-length t c = search needs
 
-reserve-returns-2 : (t : ℕ) → reserve-lts.Need-returns-2 (
-  complete-reads.Asked,
-  complete-reads.Learnt,
-  kids-of-reads.Asked,
-  kids-of-reads.Learnt,
-  take-var-reads.Asked,
-  take-var-reads.Learnt,
-  reserve-below t,
-  reserve.Post,
-) (reserve-at t) reserve.Post
+reserve-returns-2 : (t : ℕ) → reserve-lts.Need-returns-2 (reserve-claims t) (reserve-at t) reserve.Post
 reserve-returns-2 t c = search reserve-done
 
-reserve-kids-of-requires : (t : ℕ) → reserve-lts.Need-kids-of-requires (
-  complete-reads.Asked,
-  complete-reads.Learnt,
-  kids-of-reads.Asked,
-  kids-of-reads.Learnt,
-  take-var-reads.Asked,
-  take-var-reads.Learnt,
-  reserve-below t,
-  reserve.Post,
-) (reserve-at t) reserve.Post
+reserve-kids-of-requires : (t : ℕ) → reserve-lts.Need-kids-of-requires (reserve-claims t) (reserve-at t) reserve.Post
 reserve-kids-of-requires t c κs = search needs
 
-reserve-take-var-requires : (t : ℕ) → reserve-lts.Need-take-var-requires (
-  complete-reads.Asked,
-  complete-reads.Learnt,
-  kids-of-reads.Asked,
-  kids-of-reads.Learnt,
-  take-var-reads.Asked,
-  take-var-reads.Learnt,
-  reserve-below t,
-  reserve.Post,
-) (reserve-at t) reserve.Post
+reserve-take-var-requires : (t : ℕ) → reserve-lts.Need-take-var-requires (reserve-claims t) (reserve-at t) reserve.Post
 reserve-take-var-requires t c κs = search needs
 
-reserve-take-var-requires-2 : (t : ℕ) → reserve-lts.Need-take-var-requires-2 (
-  complete-reads.Asked,
-  complete-reads.Learnt,
-  kids-of-reads.Asked,
-  kids-of-reads.Learnt,
-  take-var-reads.Asked,
-  take-var-reads.Learnt,
-  reserve-below t,
-  reserve.Post,
-) (reserve-at t) reserve.Post
+reserve-take-var-requires-2 : (t : ℕ) → reserve-lts.Need-take-var-requires-2 (reserve-claims t) (reserve-at t) reserve.Post
 reserve-take-var-requires-2 t c κs = search needs
 
-reserve-reserve-requires : (t : ℕ) → reserve-lts.Need-reserve-requires (
-  complete-reads.Asked,
-  complete-reads.Learnt,
-  kids-of-reads.Asked,
-  kids-of-reads.Learnt,
-  take-var-reads.Asked,
-  take-var-reads.Learnt,
-  reserve-below t,
-  reserve.Post,
-) (reserve-at t) reserve.Post
+reserve-reserve-requires : (t : ℕ) → reserve-lts.Need-reserve-requires (reserve-claims t) (reserve-at t) reserve.Post
 reserve-reserve-requires t c κs = search needs
 
-reserve-reserve-requires-2 : (t : ℕ) → reserve-lts.Need-reserve-requires-2 (
-  complete-reads.Asked,
-  complete-reads.Learnt,
-  kids-of-reads.Asked,
-  kids-of-reads.Learnt,
-  take-var-reads.Asked,
-  take-var-reads.Learnt,
-  reserve-below t,
-  reserve.Post,
-) (reserve-at t) reserve.Post
+reserve-reserve-requires-2 : (t : ℕ) → reserve-lts.Need-reserve-requires-2 (reserve-claims t) (reserve-at t) reserve.Post
 reserve-reserve-requires-2 t c κs = search needs
 
-reserve-reserve-requires-3 : (t : ℕ) → reserve-lts.Need-reserve-requires-3 (
-  complete-reads.Asked,
-  complete-reads.Learnt,
-  kids-of-reads.Asked,
-  kids-of-reads.Learnt,
-  take-var-reads.Asked,
-  take-var-reads.Learnt,
-  reserve-below t,
-  reserve.Post,
-) (reserve-at t) reserve.Post
+reserve-reserve-requires-3 : (t : ℕ) → reserve-lts.Need-reserve-requires-3 (reserve-claims t) (reserve-at t) reserve.Post
 reserve-reserve-requires-3 t c κs = search needs
 
-reserve-same-length-2 : (t : ℕ) → reserve-lts.Need-same-length-2 (
-  complete-reads.Asked,
-  complete-reads.Learnt,
-  kids-of-reads.Asked,
-  kids-of-reads.Learnt,
-  take-var-reads.Asked,
-  take-var-reads.Learnt,
-  reserve-below t,
-  reserve.Post,
-) (reserve-at t) reserve.Post
+reserve-same-length-2 : (t : ℕ) → reserve-lts.Need-same-length-2 (reserve-claims t) (reserve-at t) reserve.Post
 reserve-same-length-2 t c = search needs
 
-reserve-returns-3 : (t : ℕ) → reserve-lts.Need-returns-3 (
-  complete-reads.Asked,
-  complete-reads.Learnt,
-  kids-of-reads.Asked,
-  kids-of-reads.Learnt,
-  take-var-reads.Asked,
-  take-var-reads.Learnt,
-  reserve-below t,
-  reserve.Post,
-) (reserve-at t) reserve.Post
+reserve-returns-3 : (t : ℕ) → reserve-lts.Need-returns-3 (reserve-claims t) (reserve-at t) reserve.Post
 unfolding bitOf
 reserve-returns-3 t c = search reserve-kids
 
-reserve-returns-4 : (t : ℕ) → reserve-lts.Need-returns-4 (
-  complete-reads.Asked,
-  complete-reads.Learnt,
-  kids-of-reads.Asked,
-  kids-of-reads.Learnt,
-  take-var-reads.Asked,
-  take-var-reads.Learnt,
-  reserve-below t,
-  reserve.Post,
-) (reserve-at t) reserve.Post
+reserve-returns-4 : (t : ℕ) → reserve-lts.Need-returns-4 (reserve-claims t) (reserve-at t) reserve.Post
 reserve-returns-4 t c = search reserve-beyond
 
-reserve-returns-5 : (t : ℕ) → reserve-lts.Need-returns-5 (
-  complete-reads.Asked,
-  complete-reads.Learnt,
-  kids-of-reads.Asked,
-  kids-of-reads.Learnt,
-  take-var-reads.Asked,
-  take-var-reads.Learnt,
-  reserve-below t,
-  reserve.Post,
-) (reserve-at t) reserve.Post
+reserve-returns-5 : (t : ℕ) → reserve-lts.Need-returns-5 (reserve-claims t) (reserve-at t) reserve.Post
 reserve-returns-5 t c = search reserve-out
 
 pub +reserve-spec : {M : Type 1} → statement M
