@@ -4,7 +4,7 @@ ghost use mathlib.Core.Path.{_≡_};
 ghost use Prim.Native.Nat.{min};
 ghost use lib.ListN.{getD, set, take};
 ghost use Rattle.model.specs.Words.{putBatch};
-ghost use Rattle.model.specs.Nodes.{bump, litAt, nodeAt, var};
+ghost use Rattle.model.specs.Nodes.{bump, litAt, nodeAt};
 ghost use Rattle.model.specs.Signs.{carry, half, sum};
 ghost use Rattle.model.specs.Logic.{pL};
 ghost use Rattle.model.specs.Emit.{childDir, emit, emitAll, node, takeVar, write};
@@ -36,7 +36,7 @@ pub struct Cursor {
 }
 
 // The connections of a node's children.
-pub struct Kids {
+struct Kids {
     pub a: u32,
     pub b: u32,
     pub c: u32,

@@ -7,7 +7,7 @@ ghost use lib.ListN.{take};
 ghost use Rattle.model.specs.Nodes.{bump, var};
 ghost use Rattle.model.specs.Signs.{carry, sum};
 ghost use Rattle.model.specs.Emit as model;
-ghost use Rattle.emitter.specs.State.{tab, three};
+ghost use Rattle.emitter.specs.State.{tab};
 
 // Whether node n has both its variables.
 fn complete(nodes: &[u32], n: u32) -> bool
