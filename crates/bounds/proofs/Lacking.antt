@@ -130,6 +130,7 @@ module _ (index : List ℕ) (base n other others l k place : ℕ) (inv : Lacks i
 
   pub lacks-known : (place ≡ 0 → ⊥) → Lacks index base n other others l (k + 1)
   lacks-known d = kept (λ t count x. both t count (elem (base + k) (run other others)) true refl (known-is t count (base + k) (λ e. d (read ∙ x .here k inside ∙ e))) ∙ or-true (elem (base + k) (run other others)))
+
   pub lacks-other : place ≡ 0 → other ≤ base + k → base + k - other < others → Lacks index base n other others l (k + 1)
   lacks-other z h m = kept (λ t count x. both t count true (elem (base + k) (valuesFrom t 0 count)) (elem-in (base + k) other others h (omega arith)) refl)
 

@@ -132,14 +132,7 @@ fn need_words(dir: u32, codes: &[u32; 48], len: usize, v: u64) -> usize
 }
 
 // The same, but 0 where the value's record is marked.
-fn words_one(
-    dir: u32,
-    table: &[u32],
-    place: u32,
-    codes: &[u32; 48],
-    len: usize,
-    v: u64,
-) -> usize
+fn words_one(dir: u32, table: &[u32], place: u32, codes: &[u32; 48], len: usize, v: u64) -> usize
     requires { ⌜ (len ≤ 48) × (3 * place ≤ length (now table)) × (place ≤ 1024) ⌝ }
     ensures { λ r. ⌜ ((os : Outs) → now (codes .entry) ≡ codesOf os → len ≤ length os → r ≡ taken (dirOf dir) (now (table .entry)) place (take len os) v) ⌝ }
 {
@@ -274,7 +267,17 @@ fn bound_one(
             count: c.count,
         };
     }
-    let s = compare(dir, clauses, row, pairs, len, v as u64, c.own, fill, written);
+    let s = compare(
+        dir,
+        clauses,
+        row,
+        pairs,
+        len,
+        v as u64,
+        c.own,
+        fill,
+        written,
+    );
     Bounded {
         next: c.next,
         fill: s.fill,
@@ -310,7 +313,20 @@ pub fn bound_all(
     while k < n {
         let place = index[k];
         let v = (base + k as u64) as u32;
-        let s = bound_one(dir, bounds, clauses, &mut row, pairs, len, place, v, records, number, at, put);
+        let s = bound_one(
+            dir,
+            bounds,
+            clauses,
+            &mut row,
+            pairs,
+            len,
+            place,
+            v,
+            records,
+            number,
+            at,
+            put,
+        );
         records = s.count;
         number = s.next;
         at = s.fill;
