@@ -49,7 +49,7 @@ leaf-is α (nL n) =
     let d : (4 * n + 1) / 4 ≡ n = omega arith in
     rw (m, d)
 
-times : (w : ℕ) (b : Bool) → w * b2n b ≡ cond b w 0
+pub times : (w : ℕ) (b : Bool) → w * b2n b ≡ cond b w 0
 times w true = omega arith
 times w false = omega arith
 

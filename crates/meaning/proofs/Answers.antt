@@ -25,7 +25,7 @@ use Rattle.meaning.proofs.Comparing.{compare-if, compare-only}
 use Rattle.meaning.proofs.Invariant.{Leaf, Leaves, leafBy, leaf, AllR, RecOK, canon, Fits, Inv, each-node}
 
 -- values of leaves
-leaf-lit : (t : List ℕ) (α : ℕ → Bool) (w : ℕ) → w % 4 < 2 → litTrue α (litAt t w) ≡ leaf α w
+pub leaf-lit : (t : List ℕ) (α : ℕ → Bool) (w : ℕ) → w % 4 < 2 → litTrue α (litAt t w) ≡ leaf α w
 unfolding litAt leaf litTrue
 leaf-lit t α w h = go (w % 4) h
   where
@@ -92,7 +92,7 @@ sumAll st α = weigh (leaf α) (st .done) + weigh (leaf α) (st .pend)
 
 module _ (F : ℕ) where
   -- the clauses bound the sum by the outputs' value
-  bounded : (st : St) (δ : Dir) (α α′ : ℕ → Bool) (x : Rec) → Inv F st → T (clausesTrue α′ (st .em .sink)) → ((y : ℕ) → y < F → α′ y ≡ α y) → RecOK F st x → T (mk δ x)
+  pub bounded : (st : St) (δ : Dir) (α α′ : ℕ → Bool) (x : Rec) → Inv F st → T (clausesTrue α′ (st .em .sink)) → ((y : ℕ) → y < F → α′ y ≡ α y) → RecOK F st x → T (mk δ x)
       → Ord δ (weigh (leaf α) (st .done)) (outValue α′ (outLits (st .em .table) (st .outs)))
   bounded st δ α α′ x I c s R m =
       let t = st .em .table in

@@ -164,7 +164,7 @@ module _ (F : ℕ) (m : Machine) (done : List Pending) (cls : Clauses) (W : Whol
       go true h = absurd (h refl)
       go false h = rw totals (rest (ltb (totalOf (m .party)) (suc l)))
 
-  buffer-is : (β : ℕ → Bool) → bufferTrue β m ≡ clausesTrue β cls
+  pub buffer-is : (β : ℕ → Bool) → bufferTrue β m ≡ clausesTrue β cls
   unfolding bufferTrue
   buffer-is β = ap (wordsTrue β false) (W .words) ∙ words-alone β cls (W .range)
 
@@ -194,7 +194,7 @@ module _ (F : ℕ) (m : Machine) (done : List Pending) (cls : Clauses) (W : Whol
         ),
       )
 
-fresh-sum : (F next : ℕ) (nodes bounds : List ℕ) (clauses : List ℤ) (α : ℕ → Bool) → inRange F ≡ true → sumAll (stOf (fresh F next nodes bounds clauses) [] []) α ≡ 0
+pub fresh-sum : (F next : ℕ) (nodes bounds : List ℕ) (clauses : List ℤ) (α : ℕ → Bool) → inRange F ≡ true → sumAll (stOf (fresh F next nodes bounds clauses) [] []) α ≡ 0
 unfolding fresh start emptyParty pending pendingOf
 fresh-sum F next nodes bounds clauses α e = rw e
 

@@ -91,7 +91,7 @@ unfolding clauseWords
 clause-length [] = omega arith
 clause-length (l ∷ c) = omega arith
 
-flat-length : (cs : Clauses) → length cs ≤ length (flat cs)
+pub flat-length : (cs : Clauses) → length cs ≤ length (flat cs)
 unfolding flat
 flat-length [] = omega arith
 flat-length (c ∷ cs) = omega (arith, clause-length c, flat-length cs, length-append (clauseWords c) (flat cs))
@@ -118,7 +118,7 @@ down-below r n = go (min (r .to) (n + 1) - max (r .from) 1) refl
     go (suc k) e = run-below (max (r .from) 1 - 1) (suc k) n (omega arith)
 
 -- a build leaves the other tables; the records that it leaves are those that are known
-if-same : {A : Type 0} (f : Machine → A) (qs : List Pending) (x y : Machine) → f y ≡ f x → f (ifPending qs x y) ≡ f x
+pub if-same : {A : Type 0} (f : Machine → A) (qs : List Pending) (x y : Machine) → f y ≡ f x → f (ifPending qs x y) ≡ f x
 if-same f [] x y e = refl
 if-same f (q ∷ qs) x y e = e
 
@@ -151,7 +151,7 @@ unfolding emitSt
 emit-done δ st = refl
 
 -- the records' variables
-recs-at : (P : Rec → Type 0) (t : List ℕ) (i n : ℕ) → AllR P (recsOf t i n) → (j : ℕ) → j < n → P (recAt t (i + j))
+pub recs-at : (P : Rec → Type 0) (t : List ℕ) (i n : ℕ) → AllR P (recsOf t i n) → (j : ℕ) → j < n → P (recAt t (i + j))
 recs-at P t i zero h j l = absurd (omega arith)
 recs-at P t i (suc n) h zero l = rw add-zero (h .0)
 recs-at P t i (suc n) h (suc j) l = rw (add-suc i j, ← suc-add i j) (recs-at P t (suc i) n (h .1) j (omega arith))
@@ -181,6 +181,16 @@ module _ (F : ℕ) (st : St) (I : Inv F st) (low : st .em .next ≤ greatest + 1
       let z : 0 + i ≡ i = omega arith in
       let h : recAt b i .rv < st .em .next = rw z at (R .low) in
       omega (arith, rv-at b i)
+
+pub work-rises : (ups downs : List ℕ) (b : Machine) → b .next ≤ work ups downs b .em .next
+unfolding work
+work-rises ups downs b =
+    let os = present (b .party .outputs) in
+    omega (arith, stage-rises iff (b .party .nodes) os ups (before b), stage-rises onlyif (b .party .nodes) os downs (stage plus1 follow follow iff (b .party .nodes) os ups (before b)))
+
+pub reserved-rises : (b : Machine) → b .next ≤ reserving b .next
+unfolding reserving
+reserved-rises b = reserve-rises plus1 (λ n. omega arith) (b .party .nodes) (present (b .party .outputs)) (record { table = b .nodes; next = b .next; sink = [] })
 
 module _ (F : ℕ) where
   encodeSt-inv : (δ : Dir) (rs : List ℕ) (st : St) → All (λ r. r < weights (st .done)) rs → Inv F st → Inv F (encodeSt δ rs st)
@@ -221,6 +231,7 @@ module _ (F : ℕ) where
       within = rw (length-sets (b .clauses) (b .shared .fill) (flat (w .em .sink))) f;
       words = words-after (b .clauses) (flat (w .em .sink)) (flat cls) (b .shared .fill) (W .words) f ∙ sym (flat-append cls (w .em .sink));
       range = clauses-range (w .em .next) (cls ++ w .em .sink) g (I .base .nz);
+      counted = omega (arith, W .counted, length-append cls (w .em .sink));
       tidy = record {
         left = omega arith;
         drawn = omega (arith, W .tidy .left, W .tidy .drawn);
@@ -229,7 +240,6 @@ module _ (F : ℕ) where
         wide = W .tidy .wide;
         nodes = W .tidy .nodes;
         bounds = n;
-        clauses = omega (arith, W .tidy .clauses, flat-length (w .em .sink));
         low = g;
         vars = vars-most F (behind w) I g;
         recs = recs-most F (behind w) I g (w .bounds) (w .count) refl;
@@ -249,13 +259,11 @@ module _ (F : ℕ) where
         → Whole F (worked (work ups downs b) b) done (cls ++ work ups downs b .em .sink)
     unfolding work
     encoded-whole limit most ups downs hu hd R g f =
-        let os = present (b .party .outputs) in
-        let rises : b .next ≤ work ups downs b .em .next = omega (arith, stage-rises iff (b .party .nodes) os ups (before b), stage-rises onlyif (b .party .nodes) os downs (stage plus1 follow follow iff (b .party .nodes) os ups (before b))) in
         let s = stages-are cls done (b .party .nodes) (present (b .party .outputs)) limit ups downs (before b) R in
         let I : Inv F (behind (before b)) = rw before-is (W .inv) in
         let U = encodeSt-inv iff ups (behind (before b)) hu I in
         let D = encodeSt-inv onlyif downs (encodeSt iff ups (behind (before b))) (rw (encodeSt-done iff ups (behind (before b))) hd) U in
-        worked-whole (work ups downs b) (rw (s .is) D) (omega (arith, s .few)) (omega (arith, s .few, s .long)) rises g f
+        worked-whole (work ups downs b) (rw (s .is) D) (omega (arith, s .few)) (omega (arith, s .few, s .long)) (work-rises ups downs b) g f
 
     -- the numbers that are reserved
     reserved-inv : Inv F (behind (reservedWork b))
@@ -272,13 +280,9 @@ module _ (F : ℕ) where
     unfolding reserving
     reserved-sink = reserve-leaves plus1 (b .party .nodes) (present (b .party .outputs)) (record { table = b .nodes; next = b .next; sink = [] })
 
-    reserved-rises : b .next ≤ reserving b .next
-    unfolding reserving
-    reserved-rises = reserve-rises plus1 (λ n. omega arith) (b .party .nodes) (present (b .party .outputs)) (record { table = b .nodes; next = b .next; sink = [] })
-
     reserved-whole : reserving b .next ≤ greatest + 1 → Whole F (worked (reservedWork b) b) done (cls ++ reserving b .sink)
     unfolding flat
-    reserved-whole g = worked-whole (reservedWork b) reserved-inv (W .tidy .bounds) (W .records) reserved-rises g (rw reserved-sink (omega (arith, W .within)))
+    reserved-whole g = worked-whole (reservedWork b) reserved-inv (W .tidy .bounds) (W .records) (reserved-rises b) g (rw reserved-sink (omega (arith, W .within)))
 
   module _ (m : Machine) (done : List Pending) (cls : Clauses) (W : Whole F m done cls) where
     leaving-step : m .next ≤ greatest + 1 → Step F m (leaving m) done cls []
@@ -298,6 +302,7 @@ module _ (F : ℕ) where
         within = W .within;
         words = W .words;
         range = W .range;
+        counted = W .counted;
         tidy = record {
           left = omega arith;
           drawn = omega (arith, W .tidy .left, W .tidy .drawn);
@@ -306,7 +311,6 @@ module _ (F : ℕ) where
           wide = W .tidy .wide;
           nodes = W .tidy .nodes;
           bounds = W .tidy .bounds;
-          clauses = W .tidy .clauses;
           low = low;
           vars = W .tidy .vars;
           recs = W .tidy .recs;

@@ -120,6 +120,7 @@ module _ (F : ℕ) (m : Machine) (done : List Pending) (cls : Clauses) (W : Whol
       within = W .within;
       words = W .words;
       range = W .range;
+      counted = W .counted;
       tidy = record {
         left = W .tidy .left;
         drawn = W .tidy .drawn;
@@ -128,7 +129,6 @@ module _ (F : ℕ) (m : Machine) (done : List Pending) (cls : Clauses) (W : Whol
         wide = rw (present-outputs (fronts (made .outs)) few) few;
         nodes = k;
         bounds = omega arith;
-        clauses = W .tidy .clauses;
         low = W .tidy .low;
         vars = λ β n l. vars-put (m .nodes) (m .party .nodes) (made .made) r (W .tidy .vars) β n l (decLt n (m .party .nodes));
         recs = λ i l. absurd (omega arith);

@@ -7,7 +7,7 @@ use Prim.Native.Nat.{ℕ, zero, suc, _+_, _*_, _/_, _%_, _≤_, _<_}
 use native.Mathlib.Omega.{arith}
 use borrow.Author.Tests.{ne-eqb, lt-ltb, le-ltb, lt-leb}
 use lib.Dec.{eqb, ltb, leb}
-use lib.ListN.{length, getD, drop, replicate, length-replicate}
+use lib.ListN.{length, getD, drop, replicate, length-replicate, length-take}
 use lib.Seq.{sets-eq}
 use Rattle.model.specs.Limits.{greatest, inRange, mostTerms, mostTotal, mostOutputs, mostNodes, mostBounds}
 use Rattle.model.specs.Signs.{sum, carry}
@@ -24,6 +24,7 @@ use Rattle.meaning.proofs.Access.{Raw}
 use Rattle.meaning.proofs.Emitting.{KidBy, Kid, LfBy, Lf, OutW, Base}
 use Rattle.meaning.proofs.Invariant.{Leaf, Leaves}
 use Rattle.meaning.proofs.Whole.{Heavy, Whole}
+use Rattle.meaning.proofs.Encoding.{flat-length}
 
 -- a connection word that is a literal in range, or a bit of a node below n
 module _ (F : ℕ) (top : F ≤ greatest + 1) where
@@ -145,7 +146,7 @@ module _ (F : ℕ) (inF : inRange F ≡ true) (m : Machine) (done : List Pending
   unfolding outputsOf
   len-is = ap (λ (o : Outputs). o .len) (W .tidy .shape)
 
-  party-good : partyDamaged (m .party) ≡ false
+  pub party-good : partyDamaged (m .party) ≡ false
   unfolding partyDamaged pending totalOf
   party-good =
       rw (
@@ -172,13 +173,16 @@ module _ (F : ℕ) (inF : inRange F ≡ true) (m : Machine) (done : List Pending
         bounds-good (m .bounds) (m .party .bounds) (W .tidy .recs),
       )
 
+  counted : m .party .clauses ≤ m .shared .fill
+  counted = omega (arith, W .counted, flat-length cls, ap length (W .words), length-take (m .shared .fill) (m .clauses), W .within)
+
   pub all-good : m .next ≤ greatest + 1 → allDamaged m ≡ false
   unfolding allDamaged bufferDamaged sourceDamaged
   all-good low =
       rw (
         tables-good,
         le-ltb (length (m .clauses)) (m .shared .fill) (W .within),
-        le-ltb (m .shared .fill) (m .party .clauses) (W .tidy .clauses),
+        le-ltb (m .shared .fill) (m .party .clauses) counted,
         le-ltb (m .next) (m .shared .left) (W .tidy .left),
         le-ltb (greatest + 1) (m .next) low,
       )

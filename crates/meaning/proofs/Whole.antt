@@ -46,7 +46,6 @@ pub record Tidy (F : ℕ) (m : Machine) : Type 0 where
   pub wide : length (present (m .party .outputs)) ≤ mostOutputs
   pub nodes : m .party .nodes ≤ mostNodes
   pub bounds : m .party .bounds ≤ mostBounds
-  pub clauses : m .party .clauses ≤ m .shared .fill
   pub low : m .shared .left ≤ greatest + 1
   pub vars : (β : Bit) (n : ℕ) → n < m .party .nodes → var (m .nodes) β n ≤ greatest
   pub recs : (i : ℕ) → i < m .party .bounds → getD (m .bounds) (3 * i + 1) 0 ≤ greatest
@@ -63,6 +62,7 @@ pub record Whole (F : ℕ) (m : Machine) (done : List Pending) (cls : Clauses) :
   pub within : m .shared .fill ≤ length (m .clauses)
   pub words : take (m .shared .fill) (m .clauses) ≡ flat cls
   pub range : areClauses cls ≡ true
+  pub counted : m .party .clauses ≡ length cls
   pub tidy : Tidy F m
 
 -- a call that adds the terms ts
@@ -119,6 +119,7 @@ module _ (F : ℕ) where
     within = omega arith;
     words = refl;
     range = refl;
+    counted = refl;
     tidy = record {
       left = h;
       drawn = omega arith;
@@ -127,7 +128,6 @@ module _ (F : ℕ) where
       wide = omega arith;
       nodes = omega arith;
       bounds = omega arith;
-      clauses = omega arith;
       low = omega (arith, range F e);
       vars = λ β n l. absurd (omega arith);
       recs = λ i l. absurd (omega arith);
@@ -156,6 +156,7 @@ module _ (F : ℕ) where
         within = W .within;
         words = W .words;
         range = W .range;
+        counted = W .counted;
         tidy = record {
           left = omega (arith, W .tidy .left);
           drawn = W .tidy .drawn;
@@ -164,7 +165,6 @@ module _ (F : ℕ) where
           wide = W .tidy .wide;
           nodes = W .tidy .nodes;
           bounds = W .tidy .bounds;
-          clauses = W .tidy .clauses;
           low = W .tidy .low;
           vars = W .tidy .vars;
           recs = W .tidy .recs;
@@ -216,6 +216,7 @@ module _ (F : ℕ) where
           within = W .within;
           words = W .words;
           range = W .range;
+          counted = W .counted;
           tidy = record {
             left = W .tidy .left;
             drawn = W .tidy .drawn;
@@ -224,7 +225,6 @@ module _ (F : ℕ) where
             wide = W .tidy .wide;
             nodes = W .tidy .nodes;
             bounds = W .tidy .bounds;
-            clauses = W .tidy .clauses;
             low = W .tidy .low;
             vars = W .tidy .vars;
             recs = W .tidy .recs;
@@ -273,6 +273,7 @@ module _ (F : ℕ) where
             within = omega arith;
             words = refl;
             range = refl;
+            counted = refl;
             tidy = record {
               left = W .tidy .left;
               drawn = W .tidy .drawn;
@@ -281,7 +282,6 @@ module _ (F : ℕ) where
               wide = W .tidy .wide;
               nodes = W .tidy .nodes;
               bounds = W .tidy .bounds;
-              clauses = omega arith;
               low = W .tidy .low;
               vars = λ β n l. rw (clear-var (m .nodes) (m .party .nodes) β n) (W .tidy .vars β n l);
               recs = λ i l. rw (clear-variable (m .bounds) (m .party .bounds) i) (W .tidy .recs i l);
