@@ -3,7 +3,7 @@ use mathlib.Core.Path.{_≡_, refl, sym, ap, ap₂, _∙_}
 use mathlib.Core.Bool.{Bool, true, false, not, cond, _&&_, _||_, and-false}
 use mathlib.Core.List.{List, [], _∷_}
 use mathlib.Core.Option.{Option, none, some}
-use Prim.Native.Nat.{ℕ, zero, suc, _+_, _*_, _-_, _≤_, _<_}
+use Prim.Native.Nat.{ℕ, _+_, _*_, _-_, _≤_}
 use native.Mathlib.Omega.{arith}
 use borrow.Author.Tests.{eqb-true, leb-true, leb-false, le-leb, lt-leb}
 use lib.Dec.{leb, eqb}
@@ -14,7 +14,7 @@ use Rattle.model.specs.Text as text
 use Rattle.text.specs.declared.Number.{Number}
 use Rattle.text.specs.declared.Scan.{Scan}
 use Rattle.text.specs.declared.Line.the-variants.{First, Term, Upper, Lower, NoLine}
-use Rattle.text.specs.Scans.{noneYet, held, noNumber, digitOf, byteOf, scanned, beginOf, scanOf, scanAll, firstOf, laterOf, lineOfScan, lineRead}
+use Rattle.text.specs.Scans.{noneYet, held, noNumber, digitOf, byteOf, scanAt, beginOf, scanOf, scanAll, firstOf, laterOf, lineOfScan, lineRead}
 
 -- all bytes of a field
 abbrev bytesOf : Number → List ℕ → Number
@@ -188,12 +188,12 @@ result s = lineRead (lineOfScan s)
 
 abbrev inSecond : ℕ → Number → Number → List (List ℕ) → text.Line
 inSecond k a b [] = noLine
-inSecond k a b (p ∷ []) = result (scanned k 3 a (bytesOf b p))
+inSecond k a b (p ∷ []) = result (scanAt k 3 a (bytesOf b p))
 inSecond k a b (p ∷ (q ∷ ps)) = noLine
 
 abbrev inFirst : ℕ → Number → Number → List (List ℕ) → text.Line
 inFirst k a b [] = noLine
-inFirst k a b (p ∷ []) = result (scanned k 2 (bytesOf a p) b)
+inFirst k a b (p ∷ []) = result (scanAt k 2 (bytesOf a p) b)
 inFirst k a b (p ∷ (q ∷ ps)) = inSecond k (bytesOf a p) b (q ∷ ps)
 
 abbrev pastLetter : ℕ → List (List ℕ) → text.Line
@@ -203,15 +203,15 @@ pastLetter k ([] ∷ (q ∷ ps)) = inFirst k noneYet noneYet (q ∷ ps)
 pastLetter k ((c ∷ p) ∷ (q ∷ ps)) = noLine
 
 -- one byte more, by the field
-dead-step : (k b : ℕ) (x y : Number) → scanOf (scanned k 4 x y) b ≡ scanned k 4 x y
+dead-step : (k b : ℕ) (x y : Number) → scanOf (scanAt k 4 x y) b ≡ scanAt k 4 x y
 unfolding scanOf
 dead-step k b x y = go (eqb b space)
   where
-    go : (t : Bool) → cond t (scanned k 4 x y) (scanned k 4 x y) ≡ scanned k 4 x y
+    go : (t : Bool) → cond t (scanAt k 4 x y) (scanAt k 4 x y) ≡ scanAt k 4 x y
     go true = refl
     go false = refl
 
-dead : (k : ℕ) (x y : Number) (bs : List ℕ) → result (scanAll (scanned k 4 x y) bs) ≡ noLine
+dead : (k : ℕ) (x y : Number) (bs : List ℕ) → result (scanAll (scanAt k 4 x y) bs) ≡ noLine
 unfolding lineOfScan
 dead k x y [] = refl
 dead k x y (b ∷ bs) = ap (λ (s : Scan). result (scanAll s bs)) (dead-step k b x y) ∙ dead k x y bs
@@ -226,7 +226,7 @@ parted (b ∷ bs) P f = go (eqb b space) (split space bs)
     go false [] = f (b ∷ []) []
     go false (p ∷ ps) = f (b ∷ p) ps
 
-second-field : (k : ℕ) (x y : Number) (bs : List ℕ) → result (scanAll (scanned k 3 x y) bs) ≡ inSecond k x y (split space bs)
+second-field : (k : ℕ) (x y : Number) (bs : List ℕ) → result (scanAll (scanAt k 3 x y) bs) ≡ inSecond k x y (split space bs)
 unfolding scanOf
 second-field k x y [] = refl
 second-field k x y (b ∷ bs) = go (eqb b space) (second-field k x (byteOf y b) bs)
@@ -235,13 +235,13 @@ second-field k x y (b ∷ bs) = go (eqb b space) (second-field k x (byteOf y b) 
     over p [] = refl
     over p (q ∷ ps) = refl
 
-    go : (t : Bool) → result (scanAll (scanned k 3 x (byteOf y b)) bs) ≡ inSecond k x (byteOf y b) (split space bs)
-        → result (scanAll (cond t (scanned k 4 x y) (scanned k 3 x (byteOf y b))) bs)
+    go : (t : Bool) → result (scanAll (scanAt k 3 x (byteOf y b)) bs) ≡ inSecond k x (byteOf y b) (split space bs)
+        → result (scanAll (cond t (scanAt k 4 x y) (scanAt k 3 x (byteOf y b))) bs)
         ≡ inSecond k x y (cond t ([] ∷ split space bs) (before b (split space bs)))
     go true rest = dead k x y bs ∙ parted bs (λ ps. noLine ≡ inSecond k x y ([] ∷ ps)) (λ p ps. refl)
     go false rest = rest ∙ parted bs (λ ps. inSecond k x (byteOf y b) ps ≡ inSecond k x y (before b ps)) over
 
-first-field : (k : ℕ) (x y : Number) (bs : List ℕ) → result (scanAll (scanned k 2 x y) bs) ≡ inFirst k x y (split space bs)
+first-field : (k : ℕ) (x y : Number) (bs : List ℕ) → result (scanAll (scanAt k 2 x y) bs) ≡ inFirst k x y (split space bs)
 unfolding scanOf
 first-field k x y [] = refl
 first-field k x y (b ∷ bs) = go (eqb b space) (first-field k (byteOf x b) y bs)
@@ -250,13 +250,13 @@ first-field k x y (b ∷ bs) = go (eqb b space) (first-field k (byteOf x b) y bs
     over p [] = refl
     over p (q ∷ ps) = refl
 
-    go : (t : Bool) → result (scanAll (scanned k 2 (byteOf x b) y) bs) ≡ inFirst k (byteOf x b) y (split space bs)
-        → result (scanAll (cond t (scanned k 3 x y) (scanned k 2 (byteOf x b) y)) bs)
+    go : (t : Bool) → result (scanAll (scanAt k 2 (byteOf x b) y) bs) ≡ inFirst k (byteOf x b) y (split space bs)
+        → result (scanAll (cond t (scanAt k 3 x y) (scanAt k 2 (byteOf x b) y)) bs)
         ≡ inFirst k x y (cond t ([] ∷ split space bs) (before b (split space bs)))
     go true rest = second-field k x y bs ∙ parted bs (λ ps. inSecond k x y ps ≡ inFirst k x y ([] ∷ ps)) (λ p ps. refl)
     go false rest = rest ∙ parted bs (λ ps. inFirst k (byteOf x b) y ps ≡ inFirst k x y (before b ps)) over
 
-letter-field : (k : ℕ) (bs : List ℕ) → result (scanAll (scanned k 1 noneYet noneYet) bs) ≡ pastLetter k (split space bs)
+letter-field : (k : ℕ) (bs : List ℕ) → result (scanAll (scanAt k 1 noneYet noneYet) bs) ≡ pastLetter k (split space bs)
 unfolding scanOf lineOfScan
 letter-field k [] = refl
 letter-field k (b ∷ bs) = go (eqb b space)
@@ -266,18 +266,18 @@ letter-field k (b ∷ bs) = go (eqb b space)
     over p (q ∷ ps) = refl
 
     go : (t : Bool)
-        → result (scanAll (cond t (scanned k 2 noneYet noneYet) (scanned k 4 noneYet noneYet)) bs)
+        → result (scanAll (cond t (scanAt k 2 noneYet noneYet) (scanAt k 4 noneYet noneYet)) bs)
         ≡ pastLetter k (cond t ([] ∷ split space bs) (before b (split space bs)))
     go true = first-field k noneYet noneYet bs ∙ parted bs (λ ps. inFirst k noneYet noneYet ps ≡ pastLetter k ([] ∷ ps)) (λ p ps. refl)
     go false = dead k noneYet noneYet bs ∙ parted bs (λ ps. noLine ≡ pastLetter k (before b ps)) over
 
 -- the whole line, by its fields
-two-fields : (k : ℕ) (p : List ℕ) → result (scanned k 2 (bytesOf noneYet p) noneYet) ≡ byTwo (k ∷ []) p
+two-fields : (k : ℕ) (p : List ℕ) → result (scanAt k 2 (bytesOf noneYet p) noneYet) ≡ byTwo (k ∷ []) p
 unfolding lineOfScan
 two-fields k p =
     first-read k (bytesOf noneYet p) ∙ ap (λ (o : Option ℕ). cond (eqb k 102) (oneNumber firstLine o) noLine) (number-read p)
 
-three-fields : (k : ℕ) (p q : List ℕ) → result (scanned k 3 (bytesOf noneYet p) (bytesOf noneYet q)) ≡ byThree (k ∷ []) p q
+three-fields : (k : ℕ) (p q : List ℕ) → result (scanAt k 3 (bytesOf noneYet p) (bytesOf noneYet q)) ≡ byThree (k ∷ []) p q
 unfolding lineOfScan
 three-fields k p q =
     later-read k (bytesOf noneYet p) (bytesOf noneYet q)
@@ -305,10 +305,10 @@ by-space ((c ∷ p) ∷ (q ∷ [])) = refl
 by-space ((c ∷ p) ∷ (q ∷ (r ∷ []))) = refl
 by-space ((c ∷ p) ∷ (q ∷ (r ∷ (t ∷ ps)))) = refl
 
-pub scanned-line : (bs : List ℕ) → lineRead (lineOfScan (scanAll beginOf bs)) ≡ lineOf bs
+pub scanned : (bs : List ℕ) → lineRead (lineOfScan (scanAll beginOf bs)) ≡ lineOf bs
 unfolding beginOf scanOf lineOfScan lineOf
-scanned-line [] = refl
-scanned-line (b ∷ bs) = letter-field b bs ∙ by-letter b (split space bs) ∙ go (eqb b space) refl
+scanned [] = refl
+scanned (b ∷ bs) = letter-field b bs ∙ by-letter b (split space bs) ∙ go (eqb b space) refl
   where
     go : (t : Bool) → eqb b space ≡ t → byFields (before b (split space bs)) ≡ byFields (cond t ([] ∷ split space bs) (before b (split space bs)))
     go true e = ap (λ (c : ℕ). byFields (before c (split space bs))) (eqb-true b space e) ∙ by-space (split space bs)

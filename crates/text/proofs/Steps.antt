@@ -1,13 +1,13 @@
 -- Each way through the tests of this crate's functions, and one turn of each loop, as laws of the definitions. Assumes nothing.
-use mathlib.Core.Path.{_≡_, refl, sym, ap, ap₂, _∙_, subst}
-use mathlib.Core.Bool.{Bool, true, false, not, cond, _&&_, _||_}
-use mathlib.Core.List.{List, [], _∷_}
+use mathlib.Core.Path.{_≡_, refl, ap, ap₂, _∙_, subst}
+use mathlib.Core.Bool.{Bool, true, false, not, cond}
+use mathlib.Core.List.{List, _∷_}
 use Prim.Native.Nat.{ℕ, zero, suc, _+_, _*_, _-_, _/_, _%_, _^_, _≤_, _<_, min}
 use native.Mathlib.Nat.{pow-succ'}
 use native.Mathlib.Numerals.{add-one}
 use native.Mathlib.Omega.{arith}
 use borrow.Author.Tests.{le-leb, lt-leb, lt-ltb, le-ltb, ne-eqb, not-true, not-false, ltb-true}
-use lib.Dec.{T, leb, eqb, ltb}
+use lib.Dec.{T}
 use lib.IntN.{ℤ, pos, negsuc}
 use lib.ListN.{length, set, take, drop, getD, drop-of-length-le, length-set, length-drop}
 use lib.Seq.{sets, drop-cons, getD-set-same, drop-set-lt, take-all}
@@ -23,7 +23,7 @@ use Rattle.text.specs.declared.Number.{Number}
 use Rattle.text.specs.declared.Scan.{Scan}
 use Rattle.text.specs.declared.Line.{Line}
 use Rattle.text.specs.declared.Line.the-variants.{First, Term, Upper, Lower, NoLine}
-use Rattle.text.specs.Scans.{held, noNumber, digitOf, byteOf, scanned, scanOf, firstOf, laterOf, lineOfScan}
+use Rattle.text.specs.Scans.{held, noNumber, digitOf, byteOf, scanAt, scanOf, firstOf, laterOf, lineOfScan}
 use Rattle.text.specs.Laying.{Bytes, bytesAt, layBytes}
 use Rattle.text.specs.Digiting.{Shown}
 
@@ -75,33 +75,33 @@ module _ (n : Number) (b : ℕ) where
 
 -- a byte more of a line
 module _ (s : Scan) (b : ℕ) where
-  pub scan-letter : s .field ≡ 0 → scanned b 1 (s .first) (s .second) ≡ scanOf s b
+  pub scan-letter : s .field ≡ 0 → scanAt b 1 (s .first) (s .second) ≡ scanOf s b
   unfolding scanOf
   scan-letter h = rw h
 
   module _ (h : s .field ≡ 0 → ⊥) where
-    pub scan-next : b ≡ 32 → s .field < 4 → scanned (s .letter) (s .field + 1) (s .first) (s .second) ≡ scanOf s b
+    pub scan-next : b ≡ 32 → s .field < 4 → scanAt (s .letter) (s .field + 1) (s .first) (s .second) ≡ scanOf s b
     unfolding scanOf
     scan-next e k =
         let m : min (s .field + 1) 4 ≡ s .field + 1 = omega arith in
         rw (ne-eqb (s .field) 0 h, e, m)
 
-    pub scan-past : b ≡ 32 → 4 ≤ s .field → scanned (s .letter) 4 (s .first) (s .second) ≡ scanOf s b
+    pub scan-past : b ≡ 32 → 4 ≤ s .field → scanAt (s .letter) 4 (s .first) (s .second) ≡ scanOf s b
     unfolding scanOf
     scan-past e k =
         let m : min (s .field + 1) 4 ≡ 4 = omega arith in
         rw (ne-eqb (s .field) 0 h, e, m)
 
     module _ (k : b ≡ 32 → ⊥) where
-      pub scan-first : s .field ≡ 2 → {a : Number} → a ≡ byteOf (s .first) b → scanned (s .letter) (s .field) a (s .second) ≡ scanOf s b
+      pub scan-first : s .field ≡ 2 → {a : Number} → a ≡ byteOf (s .first) b → scanAt (s .letter) (s .field) a (s .second) ≡ scanOf s b
       unfolding scanOf
       scan-first e {a} q = rw (ne-eqb (s .field) 0 h, ne-eqb b 32 k, e, q)
 
-      pub scan-second : s .field ≡ 3 → {a : Number} → a ≡ byteOf (s .second) b → scanned (s .letter) (s .field) (s .first) a ≡ scanOf s b
+      pub scan-second : s .field ≡ 3 → {a : Number} → a ≡ byteOf (s .second) b → scanAt (s .letter) (s .field) (s .first) a ≡ scanOf s b
       unfolding scanOf
       scan-second e {a} q = rw (ne-eqb (s .field) 0 h, ne-eqb b 32 k, e, q)
 
-      pub scan-none : (s .field ≡ 2 → ⊥) → (s .field ≡ 3 → ⊥) → scanned (s .letter) 4 (s .first) (s .second) ≡ scanOf s b
+      pub scan-none : (s .field ≡ 2 → ⊥) → (s .field ≡ 3 → ⊥) → scanAt (s .letter) 4 (s .first) (s .second) ≡ scanOf s b
       unfolding scanOf
       scan-none e f = rw (ne-eqb (s .field) 0 h, ne-eqb b 32 k, ne-eqb (s .field) 2 e, ne-eqb (s .field) 3 f)
 
@@ -250,7 +250,7 @@ module _ (n s : ℕ) (l : List ℕ) (w : Shown n l s) (b x : Bytes) where
       let h : s - 1 < length l = omega (arith, w .within, w .size) in
       let k : suc (s - 1) ≡ s = omega (arith, w .free) in
       e ∙ ap (λ (ds : List ℕ). layBytes ds b) (to-end (set l (s - 1) 45) (s - 1) (length-set l (s - 1) 45 ∙ w .size)
-          (drop-set-here l (s - 1) 45 h ∙ ap (λ (ds : List ℕ). 45 ∷ ds) (rw k (w .digits))))
+      (drop-set-here l (s - 1) 45 h ∙ ap (λ (ds : List ℕ). 45 ∷ ds) (rw k (w .digits))))
 
 signed-text : (z : ℤ) (t : Bool) → ltZ z (pos 0) ≡ t → cond t (45 ∷ decimal (variable (litOf z))) (decimal (variable (litOf z))) ≡ signedDecimal z
 unfolding signedDecimal variable litOf

@@ -1,7 +1,7 @@
 -- Reading a line a byte at a time, and the declared lines read as the model's. Assumes nothing: these are definitions.
 use mathlib.Core.Bool.{Bool, true, false, not, cond, _&&_, _||_}
 use mathlib.Core.List.{List, [], _∷_}
-use Prim.Native.Nat.{ℕ, suc, _+_, _*_, _-_, min}
+use Prim.Native.Nat.{ℕ, _+_, _*_, _-_, min}
 use lib.Dec.{leb, eqb}
 use Rattle.model.specs.Limits.{mostTotal}
 use Rattle.model.specs.Logic.{pL, nL}
@@ -35,20 +35,20 @@ byteOf n b =
     (digitOf mostTotal n b))
 
 -- a line of which nothing was read
-abbrev pub scanned : ℕ → ℕ → Number → Number → Scan
-scanned k f a b = record { letter = k; field = f; first = a; second = b }
+abbrev pub scanAt : ℕ → ℕ → Number → Number → Scan
+scanAt k f a b = record { letter = k; field = f; first = a; second = b }
 
 unfoldable pub beginOf : Scan
-beginOf = scanned 0 0 noneYet noneYet
+beginOf = scanAt 0 0 noneYet noneYet
 
 -- one byte more: the first is the letter, a space goes to the next field, and field 4 is of no form
 unfoldable pub scanOf : Scan → ℕ → Scan
 scanOf s b =
-    cond (eqb (s .field) 0) (scanned b 1 (s .first) (s .second))
-    (cond (eqb b space) (scanned (s .letter) (min (s .field + 1) 4) (s .first) (s .second))
-    (cond (eqb (s .field) 2) (scanned (s .letter) 2 (byteOf (s .first) b) (s .second))
-    (cond (eqb (s .field) 3) (scanned (s .letter) 3 (s .first) (byteOf (s .second) b))
-    (scanned (s .letter) 4 (s .first) (s .second)))))
+    cond (eqb (s .field) 0) (scanAt b 1 (s .first) (s .second))
+    (cond (eqb b space) (scanAt (s .letter) (min (s .field + 1) 4) (s .first) (s .second))
+    (cond (eqb (s .field) 2) (scanAt (s .letter) 2 (byteOf (s .first) b) (s .second))
+    (cond (eqb (s .field) 3) (scanAt (s .letter) 3 (s .first) (byteOf (s .second) b))
+    (scanAt (s .letter) 4 (s .first) (s .second)))))
 
 abbrev pub scanAll : Scan → List ℕ → Scan
 scanAll s [] = s

@@ -15,10 +15,10 @@ pub fn digits_of(n: u64) -> Digits
     let mut i: usize = 20;
     let mut rest = n;
     while 10 <= rest {
-        bytes[i] = 48 + (rest % 10) as u8;
+        bytes[i] = b'0' + (rest % 10) as u8;
         rest = rest / 10;
         i -= 1;
     }
-    bytes[i] = 48 + rest as u8;
+    bytes[i] = b'0' + rest as u8;
     Digits { bytes, start: i }
 }

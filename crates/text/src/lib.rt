@@ -1,8 +1,8 @@
 // Numbers and lines, to and from bytes. A line is read a byte at a time, so that lines of any length go through fixed memory.
 // What is written is a batch, as in the clause writer: one that fits whole is stored, one that does not stores nothing, and the
 // place is raised all the same. Every function is total.
-pub mod fixed;
 mod digits;
+pub mod fixed;
 
 ghost use mathlib.Core.Path.{_≡_};
 ghost use Prim.Native.Nat.{_+_, _≤_};
@@ -34,6 +34,7 @@ pub struct Scan {
     pub second: Number,
 }
 
+// `f F`, `t weight literal`, `u from to`, `l from to`, or none of these.
 pub enum Line {
     First(u32),
     Term {
@@ -46,21 +47,41 @@ pub enum Line {
     NoLine,
 }
 
+// A number of which nothing was read, and what is no number.
+const NONE_YET: Number = Number {
+    value: 0,
+    digits: false,
+    minus: false,
+    bad: false,
+};
+
+const NO_NUMBER: Number = Number {
+    value: 0,
+    digits: false,
+    minus: false,
+    bad: true,
+};
+
 // One digit more; any other byte, or a value above the limit, makes it no number.
 fn digit(n: Number, byte: u8, limit: u32) -> Number
     ensures { λ r. ⌜ r ≡ digitOf limit n byte ⌝ }
 {
-    if byte < 48 {
-        return Number { value: 0, digits: false, minus: false, bad: true };
+    if byte < b'0' {
+        return NO_NUMBER;
     }
-    if 57 < byte {
-        return Number { value: 0, digits: false, minus: false, bad: true };
+    if b'9' < byte {
+        return NO_NUMBER;
     }
-    let value = n.value as u64 * 10 + (byte - 48) as u64;
+    let value = n.value as u64 * 10 + (byte - b'0') as u64;
     if (limit as u64) < value {
-        return Number { value: 0, digits: false, minus: false, bad: true };
+        return NO_NUMBER;
     }
-    Number { value: value as u32, digits: true, minus: n.minus, bad: false }
+    Number {
+        value: value as u32,
+        digits: true,
+        minus: n.minus,
+        bad: false,
+    }
 }
 
 // One byte more of a number that may begin with a minus.
@@ -70,14 +91,19 @@ fn number_byte(n: Number, byte: u8) -> Number
     if n.bad {
         return n;
     }
-    if byte == 45 {
+    if byte == b'-' {
         if n.digits {
-            return Number { value: 0, digits: false, minus: false, bad: true };
+            return NO_NUMBER;
         }
         if n.minus {
-            return Number { value: 0, digits: false, minus: false, bad: true };
+            return NO_NUMBER;
         }
-        return Number { value: n.value, digits: false, minus: true, bad: false };
+        return Number {
+            value: n.value,
+            digits: false,
+            minus: true,
+            bad: false,
+        };
     }
     digit(n, byte, MOST_TOTAL)
 }
@@ -89,8 +115,8 @@ pub fn begin_line() -> Scan
     Scan {
         letter: 0,
         field: 0,
-        first: Number { value: 0, digits: false, minus: false, bad: false },
-        second: Number { value: 0, digits: false, minus: false, bad: false },
+        first: NONE_YET,
+        second: NONE_YET,
     }
 }
 
@@ -105,7 +131,7 @@ pub fn scan_byte(s: Scan, byte: u8) -> Scan
         new.field = 1;
         return new;
     }
-    if byte == 32 {
+    if byte == b' ' {
         if field < 4 {
             new.field = field + 1;
             return new;
@@ -128,17 +154,17 @@ pub fn scan_byte(s: Scan, byte: u8) -> Scan
 }
 
 // A line of one number: `f F`.
-fn first_line(letter: u8, a: Number) -> Line
-    ensures { λ r. ⌜ r ≡ firstOf letter a ⌝ }
+fn first_line(letter: u8, n: Number) -> Line
+    ensures { λ r. ⌜ r ≡ firstOf letter n ⌝ }
 {
-    if letter != 102 {
+    if letter != b'f' {
         return Line::NoLine;
     }
-    if a.minus {
+    if n.minus {
         return Line::NoLine;
     }
-    if a.digits {
-        return Line::First(a.value);
+    if n.digits {
+        return Line::First(n.value);
     }
     Line::NoLine
 }
@@ -156,16 +182,20 @@ fn later_line(letter: u8, a: Number, b: Number) -> Line
     if !b.digits {
         return Line::NoLine;
     }
-    if letter == 116 {
-        return Line::Term { weight: a.value, negated: b.minus, variable: b.value };
+    if letter == b't' {
+        return Line::Term {
+            weight: a.value,
+            negated: b.minus,
+            variable: b.value,
+        };
     }
     if b.minus {
         return Line::NoLine;
     }
-    if letter == 117 {
+    if letter == b'u' {
         return Line::Upper(a.value, b.value);
     }
-    if letter == 108 {
+    if letter == b'l' {
         return Line::Lower(a.value, b.value);
     }
     Line::NoLine
@@ -244,7 +274,7 @@ pub fn put_signed(out: &mut [u8], at: usize, word: i32) -> usize
     let start = d.start;
     if word < 0 {
         let sign = start - 1;
-        bytes[sign] = 45;
+        bytes[sign] = b'-';
         return put_bytes(out, at, &bytes[sign..21]);
     }
     put_bytes(out, at, &bytes[start..21])

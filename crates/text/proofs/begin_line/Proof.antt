@@ -3,8 +3,6 @@ use mathlib.Core.Path.{refl}
 use Rattle.text.specs.Scans.{beginOf}
 use Rattle.text.proofs.begin_line.Statement.{statement}
 use Rattle.text.proofs.begin_line.Tie as tie
-use Rattle.text.proofs.begin_line.Reads as reads
-use Rattle.text.proofs.begin_line.Lts as lts
 
 returns : tie.Need-returns
 unfolding beginOf

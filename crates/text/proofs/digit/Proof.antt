@@ -3,8 +3,6 @@ use Rattle.text.proofs.Steps.{digit-low, digit-high, digit-past, digit-
 use borrow.Author.Needs.{needs}
 use Rattle.text.proofs.digit.Statement.{statement}
 use Rattle.text.proofs.digit.Tie as tie
-use Rattle.text.proofs.digit.Reads as reads
-use Rattle.text.proofs.digit.Lts as lts
 
 returns : tie.Need-returns
 returns c = search digit-low

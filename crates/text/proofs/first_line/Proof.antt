@@ -2,8 +2,6 @@
 use Rattle.text.proofs.Steps.{first-other, first-minus, first-line, first-none}
 use Rattle.text.proofs.first_line.Statement.{statement}
 use Rattle.text.proofs.first_line.Tie as tie
-use Rattle.text.proofs.first_line.Reads as reads
-use Rattle.text.proofs.first_line.Lts as lts
 
 returns : tie.Need-returns
 returns c = search first-other

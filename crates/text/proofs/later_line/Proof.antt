@@ -2,8 +2,6 @@
 use Rattle.text.proofs.Steps.{later-minus, later-none, later-short, later-term, later-signed, later-upper, later-lower, later-other}
 use Rattle.text.proofs.later_line.Statement.{statement}
 use Rattle.text.proofs.later_line.Tie as tie
-use Rattle.text.proofs.later_line.Reads as reads
-use Rattle.text.proofs.later_line.Lts as lts
 
 returns : tie.Need-returns
 returns c = search later-minus

@@ -3,10 +3,6 @@ use Rattle.text.proofs.Steps.{line-first, line-later, line-none}
 use borrow.Author.Needs.{needs}
 use Rattle.text.proofs.line_of.Statement.{statement}
 use Rattle.text.proofs.line_of.Tie as tie
-use Rattle.text.proofs.line_of.Reads as reads
-use Rattle.text.proofs.line_of.Lts as lts
-use Rattle.text.proofs.first_line.Reads as first-line-reads
-use Rattle.text.proofs.later_line.Reads as later-line-reads
 
 first-line-requires : tie.Need-first-line-requires
 first-line-requires c κs = search needs

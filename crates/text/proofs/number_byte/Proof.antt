@@ -3,9 +3,6 @@ use Rattle.text.proofs.Steps.{byte-bad, byte-again, byte-twice, byte-mi
 use borrow.Author.Needs.{needs}
 use Rattle.text.proofs.number_byte.Statement.{statement}
 use Rattle.text.proofs.number_byte.Tie as tie
-use Rattle.text.proofs.number_byte.Reads as reads
-use Rattle.text.proofs.number_byte.Lts as lts
-use Rattle.text.proofs.digit.Reads as digit-reads
 
 returns : tie.Need-returns
 returns c = search byte-bad

@@ -4,8 +4,6 @@ use Rattle.text.proofs.Steps.{raised-more, raised-most}
 use borrow.Author.Needs.{needs}
 use Rattle.text.proofs.place_after.Statement.{statement}
 use Rattle.text.proofs.place_after.Tie as tie
-use Rattle.text.proofs.place_after.Reads as reads
-use Rattle.text.proofs.place_after.Lts as lts
 
 sub-if1 : tie.Need-sub-if1
 sub-if1 c = search needs

@@ -4,10 +4,6 @@ use Rattle.text.proofs.Steps.{laid, dropped}
 use borrow.Author.Needs.{needs}
 use Rattle.text.proofs.put_bytes.Statement.{statement}
 use Rattle.text.proofs.put_bytes.Tie as tie
-use Rattle.text.proofs.put_bytes.Reads as reads
-use Rattle.text.proofs.put_bytes.Lts as lts
-use Rattle.text.proofs.place_after.Reads as place-after-reads
-use Rattle.text.proofs.store.Reads as store-reads
 
 place-after-requires : tie.Need-place-after-requires
 place-after-requires c κs = search needs

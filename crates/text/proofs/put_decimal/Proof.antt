@@ -3,10 +3,6 @@ use Rattle.text.proofs.Steps.{put-shown}
 use borrow.Author.Needs.{needs}
 use Rattle.text.proofs.put_decimal.Statement.{statement}
 use Rattle.text.proofs.put_decimal.Tie as tie
-use Rattle.text.proofs.put_decimal.Reads as reads
-use Rattle.text.proofs.put_decimal.Lts as lts
-use Rattle.text.proofs.digits.digits_of.Reads as digits-of-reads
-use Rattle.text.proofs.put_bytes.Reads as put-bytes-reads
 
 digits-of-requires : tie.Need-digits-of-requires
 digits-of-requires c κs = search needs

@@ -5,11 +5,6 @@ use native.Mathlib.Omega.{arith}
 use lib.ListN.{length-set}
 use Rattle.text.proofs.put_signed.Statement.{statement}
 use Rattle.text.proofs.put_signed.Tie as tie
-use Rattle.text.proofs.put_signed.Reads as reads
-use Rattle.text.proofs.put_signed.Lts as lts
-use Rattle.literal.proofs.Literal.variable.Reads as variable-reads
-use Rattle.text.proofs.digits.digits_of.Reads as digits-of-reads
-use Rattle.text.proofs.put_bytes.Reads as put-bytes-reads
 
 variable-requires : tie.Need-variable-requires
 variable-requires c κs = search needs

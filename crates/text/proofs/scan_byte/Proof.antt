@@ -3,9 +3,6 @@ use Rattle.text.proofs.Steps.{scan-letter, scan-next, scan-past, scan-f
 use borrow.Author.Needs.{needs}
 use Rattle.text.proofs.scan_byte.Statement.{statement}
 use Rattle.text.proofs.scan_byte.Tie as tie
-use Rattle.text.proofs.scan_byte.Reads as reads
-use Rattle.text.proofs.scan_byte.Lts as lts
-use Rattle.text.proofs.number_byte.Reads as number-byte-reads
 
 returns : tie.Need-returns
 returns c = search scan-letter

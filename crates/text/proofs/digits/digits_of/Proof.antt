@@ -2,15 +2,13 @@
 -- Assumes nothing.
 use borrow.Author.Needs.{needs}
 use mathlib.Core.Path.{_≡_, refl}
-use Prim.Native.Nat.{ℕ, _≤_, _<_, _+_, _^_}
+use Prim.Native.Nat.{_≤_, _<_, _+_, _^_}
 use native.Mathlib.Omega.{arith}
 use lib.ListN.{length, drop, length-set}
 use Rattle.model.specs.Text.{digitsTo, decimal}
 use Rattle.text.proofs.Steps.{two-left, one-fewer, digits-step, digits-end}
 use Rattle.text.proofs.digits.digits_of.Statement.{statement}
 use Rattle.text.proofs.digits.digits_of.Tie as tie
-use Rattle.text.proofs.digits.digits_of.Reads as reads
-use Rattle.text.proofs.digits.digits_of.Lts as lts
 
 abbrev Inv-loop : tie.InvT-loop
 Inv-loop n bytes₀ i₀ rest₀ bytes i rest = (1 ≤ i) × (i ≤ 20) × (rest < 10 ^ i) × (length bytes ≡ 21) × (digitsTo i rest (drop (i + 1) bytes) ≡ decimal n)
