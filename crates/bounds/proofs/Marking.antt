@@ -44,10 +44,10 @@ mark-only d h = rw (dir-only d h)
 
 -- marks without a direction's bit have room for it in a word
 pub mark-fits : (δ : Dir) (m : ℕ) → m < 4294967296 → bitAt (dirPlace δ) m ≡ false → m + 2 ^ dirPlace δ < 4294967296
-mark-fits iff m h e = 
+mark-fits iff m h e =
     let d : m % 2 ≡ 1 → ⊥ = λ z. eqb-false (m % 2) 1 e z in
     omega (arith, d)
-mark-fits onlyif m h e = 
+mark-fits onlyif m h e =
     let d : m / 2 % 2 ≡ 1 → ⊥ = λ z. eqb-false (m / 2 % 2) 1 e z in
     omega (arith, d)
 

@@ -36,7 +36,8 @@ fn zeros() -> [u32; 1024]
     [0u32; 1024]
 }
 
-// For each asked value 0, or its first record's place and 1: records from last to first, so that the first wins.
+// For each asked value 0, or its first record's place and 1: records from last to first, so that the first wins. A table that is damaged
+// and a range that asks for more records than there may be are refused before.
 pub fn index_of(table: &[u32], count: u32, base: u64, n: usize) -> [u32; 1024]
     requires { ⌜ (3 * count ≤ length (now table)) × (n ≤ 1024) ⌝ }
     ensures { λ r. ⌜ Indexed (now (table .entry)) count base n r ⌝ }
@@ -132,28 +133,22 @@ fn need_words(dir: u32, codes: &[u32; 48], len: usize, v: u64) -> usize
 }
 
 // The same, but 0 where the value's record is marked.
-fn words_one(
-    dir: u32,
-    table: &[u32],
-    place: u32,
-    codes: &[u32; 48],
-    len: usize,
-    v: u64,
-) -> usize
+fn words_one(dir: u32, table: &[u32], place: u32, codes: &[u32; 48], len: usize, v: u64) -> usize
     requires { ⌜ (len ≤ 48) × (3 * place ≤ length (now table)) × (place ≤ 1024) ⌝ }
     ensures { λ r. ⌜ ((os : Outs) → now (codes .entry) ≡ codesOf os → len ≤ length os → r ≡ taken (dirOf dir) (now (table .entry)) place (take len os) v) ⌝ }
 {
     if place == 0 {
         return need_words(dir, codes, len, v);
     }
-    let marks = table[3 * (place as usize - 1) + 2];
-    if has_mark(dir, marks) {
+    let old = table[3 * (place as usize - 1) + 2];
+    if has_mark(dir, old) {
         return 0;
     }
     need_words(dir, codes, len, v)
 }
 
-// The fill after the comparators of the asked values whose records are not marked, or that have none.
+// The fill after the comparators of the asked values whose records are not marked, or that have none. Here and below, too many outputs and
+// too many records are refused before.
 pub fn words_needed(
     dir: u32,
     table: &[u32],
@@ -274,7 +269,17 @@ fn bound_one(
             count: c.count,
         };
     }
-    let s = compare(dir, clauses, row, pairs, len, v as u64, c.own, fill, written);
+    let s = compare(
+        dir,
+        clauses,
+        row,
+        pairs,
+        len,
+        v as u64,
+        c.own,
+        fill,
+        written,
+    );
     Bounded {
         next: c.next,
         fill: s.fill,
@@ -310,7 +315,20 @@ pub fn bound_all(
     while k < n {
         let place = index[k];
         let v = (base + k as u64) as u32;
-        let s = bound_one(dir, bounds, clauses, &mut row, pairs, len, place, v, records, number, at, put);
+        let s = bound_one(
+            dir,
+            bounds,
+            clauses,
+            &mut row,
+            pairs,
+            len,
+            place,
+            v,
+            records,
+            number,
+            at,
+            put,
+        );
         records = s.count;
         number = s.next;
         at = s.fill;

@@ -1,6 +1,6 @@
 -- `bound_all` is the model's run over the asked values. Assumes nothing.
 use mathlib.Core.Path.{_≡_, refl}
-use Prim.Native.Nat.{_-_, _≤_}
+use Prim.Native.Nat.{_-_}
 use native.Mathlib.Omega.{arith}
 use lib.ListN.{length}
 use Rattle.bounds.specs.Index.{dirOf, sink}
@@ -34,7 +34,7 @@ slice-aggregate-bound-one : tie.Need-slice-aggregate-bound-one Inv-loop μ-loop
 slice-aggregate-bound-one c = search needs
 
 bound-one-requires : tie.Need-bound-one-requires Inv-loop μ-loop
-bound-one-requires c κs = 
+bound-one-requires c κs =
     let l = c .before .before .before .before .before in
     ((l .before .before .pre .outputs, omega (arith, l .loop .inv .0 .0)), turn-place _ _ _ _ _ _ (l .loop .inv .1 .0) (c .before .before .before .before .loop-test .taken) _ _ refl refl)
 
@@ -45,11 +45,10 @@ loop-less : tie.Need-loop-less Inv-loop μ-loop
 loop-less c = search needs
 
 loop-again : tie.Need-loop-again Inv-loop μ-loop
-loop-again c = 
+loop-again c =
     let b = c .before .before .before .before in
     let i = b .before .before .before .before .before in
-    let l = i .before in
-    (
+    let l = i .before in (
       (search needs, search needs, search needs),
       (
         turn-more _ _ _ _ _ _ (l .loop .inv .1 .0) (i .loop-test .taken) _ _ _ refl _ _ _ (b .bound-one .ensures .book),

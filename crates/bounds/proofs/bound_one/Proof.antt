@@ -26,7 +26,7 @@ same-length-4 : tie.Need-same-length-4
 same-length-4 c = search needs
 
 returns-2 : tie.Need-returns-2
-returns-2 c = 
+returns-2 c =
     let k = c .before .before in
     let e = k .before .before .before in
     steps-put _ _ _ _ _ _ _ _ _ _ _ _ (e .before .before .before .claimed .ensures) _ _ _ (e .if1 .left) (k .compare .ensures)

@@ -1,5 +1,5 @@
 -- `claimed` marks the first record of a value, or a new one. Assumes nothing.
-use mathlib.Core.Path.{_≡_, refl, sym, _∙_}
+use mathlib.Core.Path.{refl, sym, _∙_}
 use Prim.Native.Nat.{_+_, _*_, _-_, _<_}
 use native.Mathlib.Omega.{arith}
 use lib.ListN.{length}
@@ -31,7 +31,7 @@ mul-own : tie.Need-mul-own
 mul-own c = search needs
 
 slice-read-own : tie.Need-slice-read-own
-slice-read-own c = 
+slice-read-own c =
     let s = c .before .before .before in
     let h : 3 * (s .args .place - 1) + 2 < length (s .args .bounds .now) = place-inside _ _ _ _ (s .pre) (c .before .if1 .left) in
     omega arith
@@ -49,7 +49,7 @@ has-mark-requires : tie.Need-has-mark-requires
 has-mark-requires c κs = search needs
 
 returns-2 : tie.Need-returns-2
-returns-2 c = 
+returns-2 c =
     let e = c .before .before .before .before in
     claims-marked _ _ _ _ _ _ (e .before .before .pre) (e .if1 .left) _ _ refl refl (sym (c .before .has-mark .ensures) ∙ c .if2 .taken)
 
@@ -57,7 +57,7 @@ mark-of-requires : tie.Need-mark-of-requires
 mark-of-requires c κs = search needs
 
 add-bounds : tie.Need-add-bounds
-add-bounds c = 
+add-bounds c =
     let e = c .before .before .before .before .before in
     let m = c .before .before .before .slice-known4 .given (3 * (e .before .before .args .place - 1) + 2) in
     record { fits = omega (arith, mark-fits (dirOf (e .before .before .args .dir)) _ (m .fits) (sym (c .before .before .has-mark .ensures) ∙ c .before .if2 .left), c .mark-of .ensures) }
@@ -69,7 +69,7 @@ mul-bounds : tie.Need-mul-bounds
 mul-bounds c = search needs
 
 slice-write-bounds : tie.Need-slice-write-bounds
-slice-write-bounds c = 
+slice-write-bounds c =
     let e = c .before .before .before .before .before in
     place-inside _ _ _ _ (e .before .before .pre) (e .if1 .left)
 
@@ -77,7 +77,7 @@ same-length-2 : tie.Need-same-length-2
 same-length-2 c = search needs
 
 returns-3 : tie.Need-returns-3
-returns-3 c = 
+returns-3 c =
     let e = c .before .before .before .before .before in
     claims-old _ _ _ _ _ _ (e .before .before .pre) (e .if1 .left) _ _ refl refl _ (c .mark-of .ensures) (sym (c .before .before .has-mark .ensures) ∙ c .before .if2 .left)
 

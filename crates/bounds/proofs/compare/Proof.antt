@@ -14,7 +14,7 @@ same-length-2 : tie.Need-same-length-2
 same-length-2 c = search needs
 
 returns : tie.Need-returns
-returns c = 
+returns c =
     let k = c .before .before in
     λ os e h. rw (dir-if _ (k .before .before .before .if1 .taken)) (k .comparator-if .ensures os e h)
 
@@ -28,7 +28,7 @@ same-length-4 : tie.Need-same-length-4
 same-length-4 c = search needs
 
 returns-2 : tie.Need-returns-2
-returns-2 c = 
+returns-2 c =
     let k = c .before .before in
     λ os e h. rw (dir-only _ (k .before .before .before .if1 .left)) (k .comparator-only-if .ensures os e h)
 

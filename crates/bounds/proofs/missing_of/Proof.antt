@@ -15,7 +15,7 @@ add-result : tie.Need-add-result
 add-result c = search needs
 
 returns : tie.Need-returns
-returns c = 
+returns c =
     let a = c .before .before .args in
     λ t count d e. missing-both (valuesFrom t 0 count) (run (a .first) (a .ups)) (run (a .low) (a .downs)) _ _ (c .before .missing-but .ensures .1 t count d) (c .missing-but2 .ensures .1 t count e)
 

@@ -28,7 +28,7 @@ add-words-one : tie.Need-add-words-one Inv-loop μ-loop
 add-words-one c = search needs
 
 words-one-requires : tie.Need-words-one-requires Inv-loop μ-loop
-words-one-requires c κs = 
+words-one-requires c κs =
     let s = c .before .before .before .before in
     let l = c .before .before in
     let e = s .pre .indexed .here (l .loop .k) (c .before .loop-test .taken) in
@@ -45,10 +45,9 @@ loop-less : tie.Need-loop-less Inv-loop μ-loop
 loop-less c = search needs
 
 loop-again : tie.Need-loop-again Inv-loop μ-loop
-loop-again c = 
+loop-again c =
     let l = c .before .before .before .before in
-    let s = l .before .before in
-    (
+    let s = l .before .before in (
       (omega arith, omega (arith, c .raised .ok)),
       adds-more _ _ _ _ _ _ _ _ _ _ _ _ _ _ (s .pre .indexed) (l .loop .inv .1) (c .before .before .before .loop-test .taken) refl (c .before .words-one .ensures) (c .raised .ensures),
     )
