@@ -3,10 +3,10 @@
 use mathlib.Core.Path.{_≡_, refl, sym, ap, subst, _∙_}
 use mathlib.Core.Logic.{_⊎_, inl, inr, ⊎-elim}
 use mathlib.Core.Bool.{Bool, true, false, cond}
-use mathlib.Core.List.{List, [], _∷_, _++_}
-use Prim.Native.Nat.{ℕ, zero, suc, _+_, _*_, _-_, _/_, _%_, _^_, _≤_, _<_}
+use mathlib.Core.List.{List, [], _∷_}
+use Prim.Native.Nat.{ℕ, zero, suc, _+_, _*_, _/_, _%_, _^_, _≤_, _<_}
 use native.Mathlib.Omega.{arith}
-use borrow.Author.Tests.{lt-ltb, le-ltb, eq-eqb, ne-eqb, eqb-true, eqb-false, ltb-true, ltb-false}
+use borrow.Author.Tests.{lt-ltb, le-ltb, eqb-true, eqb-false, ltb-true, ltb-false}
 use lib.Dec.{eqb, ltb}
 use lib.ListN.{length, getD, set}
 use lib.Seq.{getD-set-same, getD-set-other}
@@ -15,11 +15,11 @@ use Rattle.model.specs.Signs.{Dir, iff, onlyif}
 use Rattle.model.specs.Nodes.{bitAt}
 use Rattle.model.specs.Compare.{outLits, comparator}
 use Rattle.model.specs.Machine.{recordAt, markedIn, dirPlace, findFrom, find}
-use Rattle.model.specs.Bounds.{valuesFrom, elem, missing, Work, boundAll}
+use Rattle.model.specs.Bounds.{valuesFrom, missing, Work, boundAll}
 use Rattle.model.proofs.Bounding.{behind, find-kept, find-new, find-none, find-marked, learn, missing-append, values, bound-count, bound-values, bound-length}
 use Rattle.bounds.specs.Index.{placed, standing, work}
 use Rattle.bounds.proofs.Lacking.{known-not}
-use Rattle.bounds.proofs.Marking.{place-is, place-not, new-marks, step, step-marked, step-old, step-new}
+use Rattle.bounds.proofs.Marking.{new-marks, step, step-marked, step-old, step-new}
 
 -- ---- bits
 other-bit : (δ δ′ : Dir) → (δ′ ≡ δ → ⊥) → (m : ℕ) → bitAt (dirPlace δ′) m ≡ false → bitAt (dirPlace δ) (m + 2 ^ dirPlace δ′) ≡ bitAt (dirPlace δ) m

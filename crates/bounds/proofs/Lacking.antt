@@ -1,13 +1,13 @@
 -- How many asked values have no record: values of a run are distinct, so each is counted by itself. Assumes nothing.
 use mathlib.Core.Path.{_≡_, refl, sym, ap, _∙_}
 use mathlib.Core.Logic.{_⊎_, inl, inr}
-use mathlib.Core.Bool.{Bool, true, false, cond, _||_, or-assoc}
+use mathlib.Core.Bool.{Bool, true, false, cond, _||_, or-assoc, or-true}
 use mathlib.Core.List.{List, [], _∷_, _++_}
 use Prim.Native.Nat.{ℕ, zero, suc, _+_, _-_, _≤_, _<_}
 use native.Mathlib.Omega.{arith}
-use borrow.Author.Tests.{lt-ltb, le-ltb, eq-eqb, ne-eqb, eqb-true, eqb-false, ltb-true, ltb-false}
+use borrow.Author.Tests.{eq-eqb, ne-eqb, eqb-true, eqb-false}
 use lib.Dec.{eqb, ltb}
-use lib.ListN.{getD}
+use lib.ListN.{length, getD}
 use Rattle.model.specs.Machine.{find}
 use Rattle.model.specs.Bounds.{run, valuesFrom, elem, missing}
 use Rattle.model.proofs.Bounding.{found, learn, missing-append}
@@ -16,10 +16,6 @@ use Rattle.bounds.specs.Index.{placed, Indexed}
 elem-append : (u : ℕ) (us ks : List ℕ) → elem u (us ++ ks) ≡ (elem u us || elem u ks)
 elem-append u [] ks = refl
 elem-append u (x ∷ us) ks = rw (elem-append u us ks) (sym (or-assoc (eqb x u) (elem u us) (elem u ks)))
-
-or-true : (b : Bool) → (b || true) ≡ true
-or-true true = refl
-or-true false = refl
 
 never : true ≡ false → ⊥
 never e = let z : _≡_ {A = ℕ} 0 1 = cc in omega arith
@@ -41,7 +37,7 @@ elem-out u b (suc n) (inl l) = rw (ne-eqb b u (λ e. omega arith)) (elem-out u (
 elem-out u b (suc n) (inr l) = rw (ne-eqb b u (λ e. omega arith)) (elem-out u (suc b) n (inr (omega arith)))
 
 -- what is missing rests on which of the asked values are known
-pub missing-agree : (ks ks′ vs : List ℕ) → ((u : ℕ) → elem u vs ≡ true → elem u ks ≡ elem u ks′) → missing ks vs ≡ missing ks′ vs
+missing-agree : (ks ks′ vs : List ℕ) → ((u : ℕ) → elem u vs ≡ true → elem u ks ≡ elem u ks′) → missing ks vs ≡ missing ks′ vs
 missing-agree ks ks′ [] h = refl
 missing-agree ks ks′ (v ∷ vs) h =
     rw (h v (ap (λ (b : Bool). b || elem v vs) (eq-eqb v v refl)), missing-agree ks ks′ vs (λ u e. h u (later u e)), missing-agree (v ∷ ks) (v ∷ ks′) vs (λ u e. ap (λ (b : Bool). eqb v u || b) (h u (later u e))))
@@ -53,15 +49,58 @@ abbrev lack : Bool → ℕ
 lack true = 0
 lack false = 1
 
-missing-first : (ks : List ℕ) (b n : ℕ) → missing ks (run b (suc n)) ≡ lack (elem b ks) + missing ks (run (suc b) n)
-missing-first ks b n = go (elem b ks)
+missing-later : (ks : List ℕ) (b n : ℕ) → missing (b ∷ ks) (run (suc b) n) ≡ missing ks (run (suc b) n)
+missing-later ks b n = missing-agree (b ∷ ks) ks (run (suc b) n) other
   where
     other : (u : ℕ) → elem u (run (suc b) n) ≡ true → elem u (b ∷ ks) ≡ elem u ks
     other u e = ap (λ (q : Bool). q || elem u ks) (ne-eqb b u (λ z. never (sym e ∙ elem-out u (suc b) n (inl (omega arith)))))
 
+missing-first : (ks : List ℕ) (b n : ℕ) → missing ks (run b (suc n)) ≡ lack (elem b ks) + missing ks (run (suc b) n)
+missing-first ks b n = go (elem b ks)
+  where
     go : (q : Bool) → cond q (missing ks (run (suc b) n)) (suc (missing (b ∷ ks) (run (suc b) n))) ≡ lack q + missing ks (run (suc b) n)
     go true = omega arith
-    go false = omega (arith, missing-agree (b ∷ ks) ks (run (suc b) n) other)
+    go false = omega (arith, missing-later ks b n)
+
+-- to know one value more takes one away at most
+missing-less : (u : ℕ) (ks vs : List ℕ) → missing ks vs ≤ suc (missing (u ∷ ks) vs)
+missing-less u ks [] = omega arith
+missing-less u ks (v ∷ vs) = go (elem v ks) (eqb u v) refl (missing-less u ks vs) (missing-less u (v ∷ ks) vs)
+  where
+    turned : missing (u ∷ v ∷ ks) vs ≡ missing (v ∷ u ∷ ks) vs
+    turned = missing-agree (u ∷ v ∷ ks) (v ∷ u ∷ ks) vs (λ x e. swap (eqb u x) (eqb v x) (elem x ks))
+      where
+        swap : (a b c : Bool) → (a || (b || c)) ≡ (b || (a || c))
+        swap true true c = refl
+        swap true false c = refl
+        swap false b c = refl
+
+    go : (q p : Bool) → eqb u v ≡ p → missing ks vs ≤ suc (missing (u ∷ ks) vs) → missing (v ∷ ks) vs ≤ suc (missing (u ∷ v ∷ ks) vs)
+        → cond q (missing ks vs) (suc (missing (v ∷ ks) vs)) ≤ suc (cond (p || q) (missing (u ∷ ks) vs) (suc (missing (v ∷ u ∷ ks) vs)))
+    go true true e h k = h
+    go true false e h k = h
+    go false true e h k = omega (arith, ap (λ (x : ℕ). missing (x ∷ ks) vs) (eqb-true u v e))
+    go false false e h k = omega (arith, turned)
+
+-- what the down values lack by themselves is no more than what all lack
+pub missing-part : (ks us vs : List ℕ) → missing ks vs ≤ missing ks (us ++ vs)
+missing-part ks [] vs = omega arith
+missing-part ks (u ∷ us) vs = go (elem u ks) (missing-part ks us vs) (missing-part (u ∷ ks) us vs)
+  where
+    go : (q : Bool) → missing ks vs ≤ missing ks (us ++ vs) → missing (u ∷ ks) vs ≤ missing (u ∷ ks) (us ++ vs)
+        → missing ks vs ≤ cond q (missing ks (us ++ vs)) (suc (missing (u ∷ ks) (us ++ vs)))
+    go true h k = h
+    go false h k = omega (arith, missing-less u ks vs)
+
+-- a run has no more values than there are records after it is asked for: so one of over 1,024 values is refused
+run-records : (ks : List ℕ) (b n : ℕ) → n ≤ length ks + missing ks (run b n)
+run-records [] b zero = omega arith
+run-records [] b (suc n) = omega (arith, missing-first [] b n, run-records [] (suc b) n)
+run-records (u ∷ ks) b n = omega (arith, run-records ks b n, missing-less u ks (run b n))
+
+pub both-records : (ks : List ℕ) (b n b′ n′ : ℕ) → (n ≤ length ks + missing ks (run b n ++ run b′ n′)) × (n′ ≤ length ks + missing ks (run b n ++ run b′ n′))
+both-records ks b n b′ n′ =
+    (omega (arith, run-records ks b n, missing-append ks (run b n) (run b′ n′)), omega (arith, run-records ks b′ n′, missing-part ks (run b n) (run b′ n′)))
 
 -- an index says which values have a record
 pub known-not : (t : List ℕ) (count v : ℕ) → placed t count v ≡ 0 → elem v (valuesFrom t 0 count) ≡ false
@@ -72,7 +111,7 @@ known-not t count v e = sym (found t count v) ∙ go (ltb (find t count v) count
     go true e = absurd (omega arith)
     go false e = refl
 
-pub known-is : (t : List ℕ) (count v : ℕ) → (placed t count v ≡ 0 → ⊥) → elem v (valuesFrom t 0 count) ≡ true
+known-is : (t : List ℕ) (count v : ℕ) → (placed t count v ≡ 0 → ⊥) → elem v (valuesFrom t 0 count) ≡ true
 unfolding placed
 known-is t count v d = sym (found t count v) ∙ go (ltb (find t count v) count) d
   where

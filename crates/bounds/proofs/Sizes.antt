@@ -3,8 +3,8 @@
 -- Assumes nothing.
 use mathlib.Core.Path.{_≡_, refl, sym, ap, _∙_}
 use mathlib.Core.Logic.{inl, inr}
-use mathlib.Core.Bool.{Bool, true, false, cond}
-use mathlib.Core.List.{List, [], _∷_, _++_}
+use mathlib.Core.Bool.{true, false}
+use mathlib.Core.List.{List, [], _++_}
 use Prim.Native.Nat.{ℕ, zero, suc, _+_, _*_, _-_, _≤_, _<_}
 use native.Mathlib.Omega.{arith}
 use borrow.Author.Tests.{ltb-true}
@@ -16,8 +16,9 @@ use Rattle.model.specs.Words.{flat, raised}
 use Rattle.model.specs.Signs.{Dir}
 use Rattle.model.specs.Nodes.{bitAt}
 use Rattle.model.specs.Compare.{Outs, outLits, comparator}
+use Rattle.model.specs.Emit.{emitAll}
 use Rattle.model.specs.Machine.{recordAt, markedIn, dirPlace, find}
-use Rattle.model.specs.Bounds.{run, Work, boundAll, plus1, follow, Clauses}
+use Rattle.model.specs.Bounds.{run, Work, boundAll, emitted, stage, plus1, follow, Clauses}
 use Rattle.model.proofs.Buffer.{raised-twice}
 use Rattle.model.proofs.Emission.{flat-append}
 use Rattle.model.proofs.Frame.{shape-words, comparator-shape}
@@ -92,7 +93,7 @@ module _ (up : ℕ → ℕ) (δ : Dir) (os : List ℕ) where
       (λ i e l b. more-words nodes v _ s ∙ ap (λ (k : ℕ). length (flat s) + k) (sym (taken-all δ t (placed t count v) (outLits nodes os) v (stands-found δ t count v i e l ∙ b))))
       (λ a h. more-words nodes v _ s ∙ ap (λ (k : ℕ). length (flat s) + k) (sym (taken-all δ t (placed t count v) (outLits nodes os) v (stands-absent δ t count v a))))
 
-  pub all-words : (b n : ℕ) (w : Work Clauses) → 3 * after (w .bounds) (w .count) (run b n) ≤ length (w .bounds)
+  all-words : (b n : ℕ) (w : Work Clauses) → 3 * after (w .bounds) (w .count) (run b n) ≤ length (w .bounds)
       → length (flat (boundAll up follow δ os (run b n) w .em .sink)) ≡ length (flat (w .em .sink)) + needs δ (w .bounds) (w .count) (outLits (w .em .table) os) b n
   all-words b zero w room = omega arith
   all-words b (suc n) w room =
@@ -108,20 +109,8 @@ module _ (up : ℕ → ℕ) (δ : Dir) (os : List ℕ) where
       = needs-same δ (x .bounds) t (x .count) c (x .em .table) (w .em .table) os (suc b) n (λ u l. stands-kept follow up δ (w .em .table) os t c (w .em .next) b (w .em .sink) (omega arith) r δ u (inl (λ z. omega arith))) in
       omega (arith, first, rest, kept)
 
--- the words of a run are the same from any two states whose marks of the direction are
-pub words-alike : (up up′ : ℕ → ℕ) (δ : Dir) (os : List ℕ) (b n : ℕ) (w w′ : Work Clauses) → 3 * after (w .bounds) (w .count) (run b n) ≤ length (w .bounds)
-    → 3 * after (w′ .bounds) (w′ .count) (run b n) ≤ length (w′ .bounds) → ((u : ℕ) → stands δ (w .bounds) (w .count) u ≡ stands δ (w′ .bounds) (w′ .count) u)
-    → length (flat (boundAll up follow δ os (run b n) w .em .sink)) + length (flat (w′ .em .sink)) ≡ length (flat (boundAll up′ follow δ os (run b n) w′ .em .sink)) + length (flat (w .em .sink))
-words-alike up up′ δ os b n w w′ r r′ h =
-    omega (
-      arith,
-      all-words up δ os b n w r,
-      all-words up′ δ os b n w′ r′,
-      needs-same δ (w .bounds) (w′ .bounds) (w .count) (w′ .count) (w .em .table) (w′ .em .table) os b n (λ u l. h u),
-    )
-
 -- a run of one direction leaves the marks of the other
-pub stands-after : {S : Type 0} (put : List (List Lit) → S → S) (up : ℕ → ℕ) (δ δ′ : Dir) → (δ′ ≡ δ → ⊥) → (os : List ℕ) (b n : ℕ) (w : Work S)
+stands-after : {S : Type 0} (put : List (List Lit) → S → S) (up : ℕ → ℕ) (δ δ′ : Dir) → (δ′ ≡ δ → ⊥) → (os : List ℕ) (b n : ℕ) (w : Work S)
     → 3 * after (w .bounds) (w .count) (run b n) ≤ length (w .bounds) → (u : ℕ)
     → stands δ (boundAll up put δ′ os (run b n) w .bounds) (boundAll up put δ′ os (run b n) w .count) u ≡ stands δ (w .bounds) (w .count) u
 stands-after put up δ δ′ d os b zero w room u = refl
@@ -132,6 +121,29 @@ stands-after put up δ δ′ d os b (suc n) w room u =
     let a = after-step put up δ′ (w .em .table) os t c (w .em .next) b (w .em .sink) (run (suc b) n) room in
     stands-after put up δ δ′ d os (suc b) n x (omega (arith, a .0, a .1)) u
     ∙ stands-kept put up δ′ (w .em .table) os t c (w .em .next) b (w .em .sink) (omega arith) (λ z. omega (arith, room-first t c b (run (suc b) n) z)) δ u (inr d)
+
+-- so does a whole stage of it
+pub stands-stage : {S : Type 0} (gates puts : List (List Lit) → S → S) (up : ℕ → ℕ) (δ δ′ : Dir) → (δ′ ≡ δ → ⊥) → (N : ℕ) (os : List ℕ) (b n : ℕ) (w : Work S)
+    → 3 * after (w .bounds) (w .count) (run b n) ≤ length (w .bounds) → (u : ℕ)
+    → stands δ (stage up gates puts δ′ N os (run b n) w .bounds) (stage up gates puts δ′ N os (run b n) w .count) u ≡ stands δ (w .bounds) (w .count) u
+unfolding stage emitted
+stands-stage gates puts up δ δ′ d N os b zero w room u = refl
+stands-stage gates puts up δ δ′ d N os b (suc n) w room u = stands-after puts up δ δ′ d os b (suc n) (emitted up gates δ′ N os w) room u
+
+-- a stage's words are its gates' and those of the run alone, over any node table and any records with the same marks of the direction
+pub stage-words : (up : ℕ → ℕ) (δ : Dir) (N : ℕ) (os : List ℕ) (b n : ℕ) (w : Work Clauses) (nodes t : List ℕ) (count next : ℕ) → 3 * after (w .bounds) (w .count) (run b (suc n)) ≤ length (w .bounds)
+    → 3 * after t count (run b (suc n)) ≤ length t → ((u : ℕ) → stands δ (w .bounds) (w .count) u ≡ stands δ t count u)
+    → length (flat (stage up follow follow δ N os (run b (suc n)) w .em .sink))
+    ≡ length (flat (emitAll up follow δ N os (w .em) .sink)) + length (flat (boundAll plus1 follow δ os (run b (suc n)) (work nodes t count next []) .em .sink))
+unfolding stage emitted flat
+stage-words up δ N os b n w nodes t count next r r′ h =
+    let x : Work Clauses = emitted up follow δ N os w in
+    omega (
+      arith,
+      all-words up δ os b (suc n) x r,
+      all-words plus1 δ os b (suc n) (work nodes t count next []) r′,
+      needs-same δ (w .bounds) t (w .count) count (x .em .table) nodes os b (suc n) (λ u l. h u),
+    )
 
 -- ---- the loop
 raised-none : (f : ℕ) → f ≤ mostFill → raised f 0 ≡ f

@@ -10,7 +10,6 @@ use Rattle.model.specs.Logic.{Lit, pL}
 use Rattle.model.specs.Words.{flat, buffer, Sink, putEach}
 use Rattle.model.specs.Signs.{Dir, iff, onlyif}
 use Rattle.model.specs.Nodes.{bump}
-use Rattle.model.specs.Emit.{Em}
 use Rattle.model.specs.Compare.{Outs, outLits, comparator}
 use Rattle.model.specs.Machine.{recordAt, markedIn, find}
 use Rattle.model.specs.Bounds.{valuesFrom, run, missing, Work, recorded, compared}

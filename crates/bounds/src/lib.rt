@@ -36,7 +36,8 @@ fn zeros() -> [u32; 1024]
     [0u32; 1024]
 }
 
-// For each asked value 0, or its first record's place and 1: records from last to first, so that the first wins.
+// For each asked value 0, or its first record's place and 1: records from last to first, so that the first wins. A table that is damaged
+// and a range that asks for more records than there may be are refused before.
 pub fn index_of(table: &[u32], count: u32, base: u64, n: usize) -> [u32; 1024]
     requires { ⌜ (3 * count ≤ length (now table)) × (n ≤ 1024) ⌝ }
     ensures { λ r. ⌜ Indexed (now (table .entry)) count base n r ⌝ }
@@ -139,14 +140,15 @@ fn words_one(dir: u32, table: &[u32], place: u32, codes: &[u32; 48], len: usize,
     if place == 0 {
         return need_words(dir, codes, len, v);
     }
-    let marks = table[3 * (place as usize - 1) + 2];
-    if has_mark(dir, marks) {
+    let old = table[3 * (place as usize - 1) + 2];
+    if has_mark(dir, old) {
         return 0;
     }
     need_words(dir, codes, len, v)
 }
 
-// The fill after the comparators of the asked values whose records are not marked, or that have none.
+// The fill after the comparators of the asked values whose records are not marked, or that have none. Here and below, too many outputs and
+// too many records are refused before.
 pub fn words_needed(
     dir: u32,
     table: &[u32],

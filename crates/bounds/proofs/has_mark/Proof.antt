@@ -1,5 +1,4 @@
 -- `has_mark` reads the mark's bit. Assumes nothing.
-use mathlib.Core.Path.{refl}
 use Rattle.bounds.proofs.Marking.{bit-if, bit-only}
 use Rattle.bounds.proofs.has_mark.Statement.{statement}
 use Rattle.bounds.proofs.has_mark.Tie as tie

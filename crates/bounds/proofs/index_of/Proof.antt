@@ -1,5 +1,4 @@
 -- `index_of` enters one record a turn. Assumes nothing.
-use mathlib.Core.Path.{refl}
 use Prim.Native.Nat.{_*_, _-_}
 use native.Mathlib.Omega.{arith}
 use Rattle.bounds.proofs.Places.{Filling, filling-none, filling-hit, filling-low, filling-high, filling-all}

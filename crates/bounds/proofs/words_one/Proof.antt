@@ -11,20 +11,20 @@ need-words-requires c κs = search needs
 returns : tie.Need-returns
 returns c = λ os e h. taken-none _ _ _ _ _ _ (c .before .if1 .taken) (c .need-words .ensures os e h)
 
-sub-marks : tie.Need-sub-marks
-sub-marks c = search needs
+sub-old : tie.Need-sub-old
+sub-old c = search needs
 
-mul-marks : tie.Need-mul-marks
-mul-marks c = search needs
+mul-old : tie.Need-mul-old
+mul-old c = search needs
 
-add-marks : tie.Need-add-marks
-add-marks c = search needs
+add-old : tie.Need-add-old
+add-old c = search needs
 
-mul-marks-2 : tie.Need-mul-marks-2
-mul-marks-2 c = search needs
+mul-old-2 : tie.Need-mul-old-2
+mul-old-2 c = search needs
 
-shared-slice-read-marks : tie.Need-shared-slice-read-marks
-shared-slice-read-marks c = search needs
+shared-slice-read-old : tie.Need-shared-slice-read-old
+shared-slice-read-old c = search needs
 
 has-mark-requires : tie.Need-has-mark-requires
 has-mark-requires c κs = search needs
@@ -44,11 +44,11 @@ words-one-spec =
     (tie.spec
     need-words-requires
     returns
-    sub-marks
-    mul-marks
-    add-marks
-    mul-marks-2
-    shared-slice-read-marks
+    sub-old
+    mul-old
+    add-old
+    mul-old-2
+    shared-slice-read-old
     has-mark-requires
     returns-2
     need-words-requires-2
