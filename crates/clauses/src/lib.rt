@@ -51,7 +51,7 @@ fn store(buf: &mut [i32], at: usize, part: &[i32], negate: bool)
 }
 
 // Whether n words fit from the fill on.
-fn has_room(len: usize, fill: usize, n: usize) -> bool
+pub fn has_room(len: usize, fill: usize, n: usize) -> bool
     ensures { λ r. ⌜ r ≡ leb (fill + n) len ⌝ }
 {
     if len < fill {

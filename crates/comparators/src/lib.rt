@@ -7,7 +7,6 @@ ghost use Prim.Native.Nat.{ℕ, _+_, _≤_, _<_, _^_};
 ghost use lib.IntN.{pos};
 ghost use lib.ListN.{length, getD, set, take};
 ghost use lib.Seq.{sets};
-ghost use lib.Dec.{leb};
 ghost use Rattle.model.specs.Logic.{Lit, pL, nL};
 ghost use Rattle.model.specs.Words.{word, negated, buffer, lay, putEach};
 ghost use Rattle.model.specs.Signs.{Dir, iff, onlyif};
@@ -189,16 +188,6 @@ fn row_of(
     }
 }
 
-// Whether n words fit from the fill on.
-fn has_room(len: usize, fill: usize, n: usize) -> bool
-    ensures { λ r. ⌜ r ≡ leb (fill + n) len ⌝ }
-{
-    if len < fill {
-        return false;
-    }
-    n <= len - fill
-}
-
 // The words of a tail, from a place on: the room is tested by the caller, once for the clause.
 fn copy_tail(clauses: &mut [i32], at: usize, tail: &[i32])
     requires { ⌜ at + length (now tail) ≤ length (now clauses) ⌝ }
@@ -217,7 +206,7 @@ fn put_tail(clauses: &mut [i32], first: i32, tail: &[i32], fill: usize) -> usize
     ensures { λ r. ⌜ buffer r (now (clauses .exit)) ≡ lay (first ∷ now (tail .entry)) (buffer fill (now (clauses .entry))) ⌝ }
 {
     let n = tail.len() + 1;
-    if has_room(clauses.len(), fill, n) {
+    if clauses::has_room(clauses.len(), fill, n) {
         clauses[fill] = first;
         copy_tail(clauses, fill + 1, tail);
         return clauses::raised(fill, n);
