@@ -27,7 +27,7 @@ pub struct Reserved {
 }
 
 // The first k words of a table, copied over those of another.
-fn copy_words(table: &[u32], room: &mut [u32], k: usize)
+pub fn copy_words(table: &[u32], room: &mut [u32], k: usize)
     requires { ⌜ (k ≤ length (now table)) × (k ≤ length (now room)) ⌝ }
     ensures { λ _. ⌜ Copied k (now (table .entry)) (now (room .entry)) (now (room .exit)) ⌝ }
 {
@@ -39,7 +39,7 @@ fn copy_words(table: &[u32], room: &mut [u32], k: usize)
 }
 
 // The state after a build. Nothing changes without pending terms.
-fn settled(p: Party, b: Built, total: u64) -> Party
+pub fn settled(p: Party, b: Built, total: u64) -> Party
     requires { ⌜ total ≤ 4294967295 ⌝ }
     ensures { λ r. ⌜ r ≡ settledOf p b total ⌝ }
 {
@@ -63,7 +63,7 @@ fn settled(p: Party, b: Built, total: u64) -> Party
 }
 
 // A build from the state.
-fn build_on(p: Party, nodes: &mut [u32]) -> Built
+pub fn build_on(p: Party, nodes: &mut [u32]) -> Built
     requires { ⌜ Buildable (partyOf p) (now nodes) ⌝ }
     ensures { λ r. ⌜ extendedOf (now (nodes .exit)) r ≡ extend (pending (partyOf p)) (partyOf p .outputs) (p .nodes) (now (nodes .entry)) ⌝ }
 {
@@ -87,19 +87,19 @@ fn reserve_in(state: State, next: u32, nodes: &[u32], room: &mut [u32]) -> bool
 }
 
 // Room for a dry run, by size. The contracts give only the lengths, so that no goal writes the words out.
-fn small_room() -> [u32; 512]
+pub fn small_room() -> [u32; 512]
     ensures { λ r. ⌜ 512 ≡ length r ⌝ }
 {
     [0; 512]
 }
 
-fn middle_room() -> [u32; 8192]
+pub fn middle_room() -> [u32; 8192]
     ensures { λ r. ⌜ 8192 ≡ length r ⌝ }
 {
     [0; 8192]
 }
 
-fn large_room() -> [u32; 32768]
+pub fn large_room() -> [u32; 32768]
     ensures { λ r. ⌜ 32768 ≡ length r ⌝ }
 {
     [0; 32768]
