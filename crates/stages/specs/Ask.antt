@@ -79,6 +79,8 @@ encoded ups downs m = worked (work ups downs (built m)) (built m)
 
 -- the refusals before have found room for the nodes and for the records
 pub record Ready (s : State) (t bs : List ℕ) (up down : Cut) : Type 0 where
+  pub weights : length (s .party .weights) ≡ 128
+  pub words : length (s .party .words) ≡ 128
   pub builds : Buildable (partyOf (s .party)) t
   pub bounds : s .party .bounds ≤ 1024
   pub total : totalOf (partyOf (s .party)) ≤ mostTotal

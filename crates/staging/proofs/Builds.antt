@@ -69,7 +69,7 @@ unfolding settledOf
 settled-drawn p b total = by-test (λ (q : Party). q .drawn ≡ p .drawn) (eqb (p .count) 0) (λ q. refl) (λ q. refl)
 
 -- pending terms, none and some
-pending-none : (p : Party) → p .count ≡ 0 → pending (partyOf p) ≡ []
+pub pending-none : (p : Party) → p .count ≡ 0 → pending (partyOf p) ≡ []
 unfolding pending pendingOf
 pending-none p h = rw h
 
@@ -80,7 +80,7 @@ some-terms old new [] xs (suc n) w x h = let z : _≡_ {A = ℕ} 0 128 = w in ab
 some-terms old new (v ∷ ws) [] (suc n) w x h = let z : _≡_ {A = ℕ} 0 128 = x in absurd (omega arith)
 some-terms old new (v ∷ ws) (y ∷ xs) (suc n) w x h = refl
 
-pending-some : (p : Party) → length (p .weights) ≡ 128 → length (p .words) ≡ 128 → (p .count ≡ 0 → ⊥) → {A : Type 0} (old new : A) → ifPending (pending (partyOf p)) old new ≡ new
+pub pending-some : (p : Party) → length (p .weights) ≡ 128 → length (p .words) ≡ 128 → (p .count ≡ 0 → ⊥) → {A : Type 0} (old new : A) → ifPending (pending (partyOf p)) old new ≡ new
 unfolding pending
 pending-some p w x h old new = some-terms old new (p .weights) (p .words) (p .count) w x h
 

@@ -1,3 +1,5 @@
+-- `short_middle` runs dry in a middle room. Assumes nothing.
+use Rattle.stages.proofs.Drying.{dry-ready}
 use borrow.Author.Needs.{needs}
 use Rattle.stages.proofs.short_middle.Statement.{statement}
 use Rattle.stages.proofs.short_middle.Tie as tie
@@ -7,27 +9,21 @@ use Rattle.stages.proofs.record_room.Reads as record-room-reads
 use Rattle.stages.proofs.short_in.Reads as short-in-reads
 use Rattle.staging.proofs.middle_room.Reads as middle-room-reads
 
--- src/lib.rt:216:21
 middle-room-requires : tie.Need-middle-room-requires
 middle-room-requires c κs = search needs
 
--- src/lib.rt:217:23
 record-room-requires : tie.Need-record-room-requires
 record-room-requires c κs = search needs
 
--- src/lib.rt:218:59
 slice-aggregate-short-in : tie.Need-slice-aggregate-short-in
 slice-aggregate-short-in c = search needs
 
--- src/lib.rt:218:71
 slice-aggregate-short-in-2 : tie.Need-slice-aggregate-short-in-2
 slice-aggregate-short-in-2 c = search needs
 
--- src/lib.rt:218:5
 short-in-requires : tie.Need-short-in-requires
-short-in-requires c κs = ?
+short-in-requires c κs = dry-ready _ _ _ _ _ _ _ _ (c .before .before .before .before .before .before .pre .0) (c .before .before .before .before .before .before .pre .1) (c .before .before .before .middle-room .ensures) (c .before .before .record-room .ensures)
 
--- src/lib.rt:204:1
 returns : tie.Need-returns
 returns c = search needs
 

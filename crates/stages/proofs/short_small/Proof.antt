@@ -1,3 +1,5 @@
+-- `short_small` runs dry in a small room. Assumes nothing.
+use Rattle.stages.proofs.Drying.{dry-ready}
 use borrow.Author.Needs.{needs}
 use Rattle.stages.proofs.short_small.Statement.{statement}
 use Rattle.stages.proofs.short_small.Tie as tie
@@ -7,27 +9,21 @@ use Rattle.stages.proofs.record_room.Reads as record-room-reads
 use Rattle.stages.proofs.short_in.Reads as short-in-reads
 use Rattle.staging.proofs.small_room.Reads as small-room-reads
 
--- src/lib.rt:199:21
 small-room-requires : tie.Need-small-room-requires
 small-room-requires c κs = search needs
 
--- src/lib.rt:200:23
 record-room-requires : tie.Need-record-room-requires
 record-room-requires c κs = search needs
 
--- src/lib.rt:201:59
 slice-aggregate-short-in : tie.Need-slice-aggregate-short-in
 slice-aggregate-short-in c = search needs
 
--- src/lib.rt:201:71
 slice-aggregate-short-in-2 : tie.Need-slice-aggregate-short-in-2
 slice-aggregate-short-in-2 c = search needs
 
--- src/lib.rt:201:5
 short-in-requires : tie.Need-short-in-requires
-short-in-requires c κs = ?
+short-in-requires c κs = dry-ready _ _ _ _ _ _ _ _ (c .before .before .before .before .before .before .pre .0) (c .before .before .before .before .before .before .pre .1) (c .before .before .before .small-room .ensures) (c .before .before .record-room .ensures)
 
--- src/lib.rt:187:1
 returns : tie.Need-returns
 returns c = search needs
 
