@@ -88,7 +88,7 @@ verdict-same n n′ f f′ r e g = go (ltb (greatest + 1) n) refl
     go false q = rw (sym e ∙ q, q, g (ltb-false (greatest + 1) n q))
 
 -- the records that a build keeps
-built-kept : (s : State) (next : ℕ) (t bs : List ℕ) (ws : List ℤ) → length (s .party .weights) ≡ 128 → length (s .party .words) ≡ 128 → built (machineOf s next t bs ws) .party .bounds ≡ keptOf (s .party)
+pub built-kept : (s : State) (next : ℕ) (t bs : List ℕ) (ws : List ℤ) → length (s .party .weights) ≡ 128 → length (s .party .words) ≡ 128 → built (machineOf s next t bs ws) .party .bounds ≡ keptOf (s .party)
 unfolding built keptOf
 built-kept s next t bs ws h k = go (eqb (s .party .count) 0) refl
   where
