@@ -110,6 +110,9 @@ sound m h =
       source = sourced (m .shared) (m .next) (a .1);
     }
 
+pub total-fits : (m : Machine) → allDamaged m ≡ false → (total : ℕ) → total ≡ totalOf (m .party) → total ≤ 4294967295
+total-fits m h total e = let i : totalOf (m .party) ≤ 4294967295 = sound m h .total in omega arith
+
 -- what a build needs, as the model has it
 pub record Needed (m : Machine) (n : Needs) : Type 0 where
   pub wide : n .positions ≡ positionsAfter (pending (m .party)) (present (m .party .outputs)) (m .party .nodes)

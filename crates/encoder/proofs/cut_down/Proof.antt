@@ -1,3 +1,5 @@
+-- `cut_down` gives the lower values' records. Assumes nothing.
+use Rattle.encoder.proofs.Ranges.{down-cut}
 use borrow.Author.Needs.{needs}
 use Rattle.encoder.proofs.cut_down.Statement.{statement}
 use Rattle.encoder.proofs.cut_down.Tie as tie
@@ -7,29 +9,23 @@ use Rattle.encoder.proofs.least.Reads as least-reads
 use Rattle.encoder.proofs.most.Reads as most-reads
 use Rattle.encoder.proofs.span.Reads as span-reads
 
--- src/lib.rt:216:9
 most-requires : tie.Need-most-requires
 most-requires c κs = search needs
 
--- src/lib.rt:217:27
 add-least : tie.Need-add-least
 add-least c = search needs
 
--- src/lib.rt:217:9
 least-requires : tie.Need-least-requires
 least-requires c κs = search needs
 
--- src/lib.rt:218:20
 sub-span : tie.Need-sub-span
 sub-span c = search needs
 
--- src/lib.rt:218:5
 span-requires : tie.Need-span-requires
 span-requires c κs = search needs
 
--- src/lib.rt:212:1
 returns : tie.Need-returns
-returns c = ?
+returns c = down-cut (c .before .before .before .args .r) _ _ _ _ (c .before .before .most .ensures) (c .before .least .ensures) (c .span .ensures)
 
 pub cut-down-spec : {M : Type 1} → statement M
 cut-down-spec =

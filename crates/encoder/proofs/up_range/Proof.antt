@@ -1,38 +1,33 @@
+-- `up_range` is the range of upper bounds. Assumes nothing.
+use mathlib.Core.Path.{sym, ap}
+use Rattle.encoder.specs.Read.{upRange}
 use borrow.Author.Needs.{needs}
 use Rattle.encoder.proofs.up_range.Statement.{statement}
 use Rattle.encoder.proofs.up_range.Tie as tie
 use Rattle.encoder.proofs.up_range.Reads as reads
 use Rattle.encoder.proofs.up_range.Lts as lts
 
--- src/lib.rt:158:17
 enum-known-ask : tie.Need-enum-known-ask
 enum-known-ask c = search needs
 
--- src/lib.rt:159:25
 enum-told : tie.Need-enum-told
 enum-told c = search needs
 
--- src/lib.rt:160:19
 enum-known-ask-2 : tie.Need-enum-known-ask-2
 enum-known-ask-2 c = search needs
 
--- src/lib.rt:161:21
 enum-known-ask-3 : tie.Need-enum-known-ask-3
 enum-known-ask-3 c = search needs
 
--- src/lib.rt:154:1
 returns : tie.Need-returns
 returns c = search needs
 
--- src/lib.rt:154:1
 returns-2 : tie.Need-returns-2
-returns-2 c = ?
+returns-2 c = sym (ap upRange (c .enum-told .given .1))
 
--- src/lib.rt:154:1
 returns-3 : tie.Need-returns-3
 returns-3 c = search needs
 
--- src/lib.rt:154:1
 returns-4 : tie.Need-returns-4
 returns-4 c = search needs
 
