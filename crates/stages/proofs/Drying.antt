@@ -183,8 +183,8 @@ module _ (s : State) (t bs : List ℕ) (up down : Cut) (table records : List ℕ
         let g : ltb (greatest + 1) (w .next) ≡ ltb (greatest + 1) (W .em .next) = ap (ltb (greatest + 1)) n ∙ scratch-next (valuesOf up) (valuesOf down) B t₁ s₀ (a .long) (a .long′) (a .begins) in
         q ∙ verdict-same (w .next) (W .em .next) (w .fill) (s .shared .fill + length (flat (W .em .sink))) (length ws) g
         (λ low.
-            let y = ap (λ (z : Work Counts). z .em .sink .fill) (scratch-counts (valuesOf up) (valuesOf down) B t₁ s₀ (a .long) (a .long′) (a .begins) (inl (omega (arith, n)))) in
-            cut-compares (w .fill) (s .shared .fill + length (flat (W .em .sink))) (length ws) (ap (λ (z : ℕ). min (z + 0) mostFill) f ∙ y) room)
+        let y = ap (λ (z : Work Counts). z .em .sink .fill) (scratch-counts (valuesOf up) (valuesOf down) B t₁ s₀ (a .long) (a .long′) (a .begins) (inl (omega (arith, n)))) in
+        cut-compares (w .fill) (s .shared .fill + length (flat (W .em .sink))) (length ws) (ap (λ (z : ℕ). min (z + 0) mostFill) f ∙ y) room)
 
 -- ---- the run on the lent tables
 module _ (s : State) (next : ℕ) (t bs : List ℕ) (ws : List ℤ) (up down : Cut) (total : ℕ) (r : Ready s t bs up down) (k : total ≡ totalOf (partyOf (s .party)))
