@@ -18,6 +18,7 @@ ghost use Rattle.encoder.specs.Read.{answerOf, encodedOf, rangeOf, upRan
 use party::Reply;
 use party::Shared;
 use party::State;
+use source::Source;
 use stages::Cut;
 
 // A reply beside the state after the call.
@@ -370,4 +371,86 @@ pub fn run_encode(
         };
     }
     encode_asked(state, next, nodes, bounds, clauses, total, up, down)
+}
+
+// An answer, and the source's next number to be stored.
+pub struct Told {
+    pub answer: Answer,
+    pub next: u32,
+}
+
+// The worker under encode: its answer apart from the source's number.
+pub fn tell_encode(
+    state: State,
+    next: u32,
+    nodes: &mut [u32],
+    bounds: &mut [u32],
+    clauses: &mut [i32],
+    ask: Ask,
+) -> Told
+    ensures { λ r. ⌜ answerOf (r .answer) (r .next) (now (nodes .exit)) (now (bounds .exit)) (now (clauses .exit)) ≡ asked ask (machineOf state next (now (nodes .entry)) (now (bounds .entry)) (now (clauses .entry))) ⌝ }
+{
+    let e = run_encode(state, next, nodes, bounds, clauses, ask);
+    let reply = e.reply;
+    let after = e.state;
+    Told {
+        answer: Answer {
+            reply,
+            state: after,
+        },
+        next: e.next,
+    }
+}
+
+// The worker under reserve.
+pub fn tell_reserve(
+    state: State,
+    next: u32,
+    nodes: &mut [u32],
+    bounds: &[u32],
+    clauses: &[i32],
+) -> Told
+    ensures { λ r. ⌜ answerOf (r .answer) (r .next) (now (nodes .exit)) (now (bounds .entry)) (now (clauses .entry)) ≡ reserveCall (machineOf state next (now (nodes .entry)) (now (bounds .entry)) (now (clauses .entry))) ⌝ }
+{
+    let e = run_reserve(state, next, nodes, bounds, clauses);
+    let reply = e.reply;
+    let after = e.state;
+    Told {
+        answer: Answer {
+            reply,
+            state: after,
+        },
+        next: e.next,
+    }
+}
+
+// Encode, over the source: the thin function stores its new number.
+pub fn encode(
+    state: State,
+    source: &mut Source,
+    nodes: &mut [u32],
+    bounds: &mut [u32],
+    clauses: &mut [i32],
+    ask: Ask,
+) -> Answer
+    ensures { λ r. ⌜ answerOf r (now (source .exit) .next) (now (nodes .exit)) (now (bounds .exit)) (now (clauses .exit)) ≡ asked ask (machineOf state (now (source .entry) .next) (now (nodes .entry)) (now (bounds .entry)) (now (clauses .entry))) ⌝ }
+{
+    let r = tell_encode(state, source.next, nodes, bounds, clauses, ask);
+    source.next = r.next;
+    r.answer
+}
+
+// Reserve, over the source.
+pub fn reserve(
+    state: State,
+    source: &mut Source,
+    nodes: &mut [u32],
+    bounds: &[u32],
+    clauses: &[i32],
+) -> Answer
+    ensures { λ r. ⌜ answerOf r (now (source .exit) .next) (now (nodes .exit)) (now (bounds .entry)) (now (clauses .entry)) ≡ reserveCall (machineOf state (now (source .entry) .next) (now (nodes .entry)) (now (bounds .entry)) (now (clauses .entry))) ⌝ }
+{
+    let r = tell_reserve(state, source.next, nodes, bounds, clauses);
+    source.next = r.next;
+    r.answer
 }
