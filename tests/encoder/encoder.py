@@ -8,10 +8,9 @@ the end of each small history the clauses are tried under every assignment of th
 import random
 import sys
 
-from machine import GREATEST, MARK, MOST, Encoder, connection, extends, state_damaged
+from machine import GREATEST, MOST, Encoder, connection, extends
 
 NUMBERS = ["first", "count", "built", "len", "nodes", "bounds", "clauses", "drawn", "fill", "left"]
-KINDS = {"up": 2, "down": 3, "both": 4, "ranges": 5}
 TOP = 2**64 - 1
 
 
@@ -26,9 +25,9 @@ def checked(words):
     return h
 
 
-def shown(words, codes):
-    """The words of a short list; the length and a sum of a long one."""
-    return list(words) if len(words) <= 400 else [len(words), checked(codes)]
+def shown(words, used, codes):
+    """The words in use, at most 400 of them, and a sum over all."""
+    return words[:min(used, 400)] + [checked(codes)]
 
 
 class History:
@@ -117,10 +116,11 @@ class History:
         assert not e.spoilt
         buffer = e.table("buffer")
         codes = [connection(w) if w else 0 for w in buffer]
+        nodes, bounds = e.table("nodes"), e.table("bounds")
         self.told += [[f[k] for k in NUMBERS] + [e.next],
                       f["weights"][:f["count"]] + f["words"][:f["count"]] + [checked(f["weights"]), checked(f["words"])],
-                      f["outputs"], shown(e.table("nodes"), e.table("nodes")), shown(e.table("bounds"), e.table("bounds")),
-                      shown(buffer, codes)]
+                      f["outputs"], shown(nodes, 8 * f["nodes"], nodes), shown(bounds, 3 * f["bounds"], bounds),
+                      shown(buffer, f["fill"], codes)]
         if buffer[:e.fill].count(0) < 250:
             tried = extends(e, most)
             History.tried += tried > 0
@@ -488,7 +488,7 @@ def damages():
 
 
 def any_histories(rng):
-    for _ in range(110):
+    for _ in range(220):
         variables = rng.choice([2, 3, 4])
         h = History(variables + 1 + rng.choice([0, 0, 5]), rng.choice([8, 40, 64, 200, 399]), rng.choice([6, 15, 30]), rng.choice([60, 150, 300, 390]))
         for _ in range(rng.randrange(3, 14)):

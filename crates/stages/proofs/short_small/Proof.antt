@@ -1,0 +1,39 @@
+-- `short_small` runs dry in a small room. Assumes nothing.
+use Rattle.stages.proofs.Drying.{dry-ready}
+use borrow.Author.Needs.{needs}
+use Rattle.stages.proofs.short_small.Statement.{statement}
+use Rattle.stages.proofs.short_small.Tie as tie
+use Rattle.stages.proofs.short_small.Reads as reads
+use Rattle.stages.proofs.short_small.Lts as lts
+use Rattle.stages.proofs.record_room.Reads as record-room-reads
+use Rattle.stages.proofs.short_in.Reads as short-in-reads
+use Rattle.staging.proofs.small_room.Reads as small-room-reads
+
+small-room-requires : tie.Need-small-room-requires
+small-room-requires c κs = search needs
+
+record-room-requires : tie.Need-record-room-requires
+record-room-requires c κs = search needs
+
+slice-aggregate-short-in : tie.Need-slice-aggregate-short-in
+slice-aggregate-short-in c = search needs
+
+slice-aggregate-short-in-2 : tie.Need-slice-aggregate-short-in-2
+slice-aggregate-short-in-2 c = search needs
+
+short-in-requires : tie.Need-short-in-requires
+short-in-requires c κs = dry-ready _ _ _ _ _ _ _ _ (c .before .before .before .before .before .before .pre .0) (c .before .before .before .before .before .before .pre .1) (c .before .before .before .small-room .ensures) (c .before .before .record-room .ensures)
+
+returns : tie.Need-returns
+returns c = search needs
+
+pub short-small-spec : {M : Type 1} → statement M
+short-small-spec =
+    tie.close
+    (tie.spec
+    small-room-requires
+    record-room-requires
+    slice-aggregate-short-in
+    slice-aggregate-short-in-2
+    short-in-requires
+    returns)
