@@ -93,7 +93,13 @@ fn node_room(len: usize) -> usize
 }
 
 // Reserve, with the source's number by value.
-pub fn run_reserve(state: State, next: u32, nodes: &mut [u32], bounds: &[u32], clauses: &[i32]) -> Encoded
+pub fn run_reserve(
+    state: State,
+    next: u32,
+    nodes: &mut [u32],
+    bounds: &[u32],
+    clauses: &[i32],
+) -> Encoded
     ensures { λ r. ⌜ encodedOf r (now (nodes .exit)) (now (bounds .entry)) (now (clauses .entry)) ≡ reserveCall (machineOf state next (now (nodes .entry)) (now (bounds .entry)) (now (clauses .entry))) ⌝ }
 {
     if damage::all_damaged(state, next, nodes, bounds, clauses) {

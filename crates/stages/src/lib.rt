@@ -198,7 +198,17 @@ fn short_small(
 {
     let mut table = staging::small_room();
     let mut records = record_room();
-    short_in(state, next, nodes, bounds, space, up, down, &mut table, &mut records)
+    short_in(
+        state,
+        next,
+        nodes,
+        bounds,
+        space,
+        up,
+        down,
+        &mut table,
+        &mut records,
+    )
 }
 
 fn short_middle(
@@ -215,7 +225,17 @@ fn short_middle(
 {
     let mut table = staging::middle_room();
     let mut records = record_room();
-    short_in(state, next, nodes, bounds, space, up, down, &mut table, &mut records)
+    short_in(
+        state,
+        next,
+        nodes,
+        bounds,
+        space,
+        up,
+        down,
+        &mut table,
+        &mut records,
+    )
 }
 
 fn short_large(
@@ -232,7 +252,17 @@ fn short_large(
 {
     let mut table = staging::large_room();
     let mut records = record_room();
-    short_in(state, next, nodes, bounds, space, up, down, &mut table, &mut records)
+    short_in(
+        state,
+        next,
+        nodes,
+        bounds,
+        space,
+        up,
+        down,
+        &mut table,
+        &mut records,
+    )
 }
 
 // What an encoding lacks: n is the number of nodes after the build, at most 4,096, and space the buffer's length.
