@@ -18,7 +18,6 @@ use Rattle.model.proofs.Bounding.{learn, learn-length, missing-append, built-bo
 use Rattle.party.specs.Read.{machineOf}
 use Rattle.party.specs.declared.Party.{Party}
 use Rattle.party.specs.declared.State.{State}
-use Rattle.bounds.specs.Index.{Indexed}
 use Rattle.stages.specs.Ask.{valuesOf, Both, keptOf}
 use Rattle.stages.specs.declared.Cut.{Cut}
 use Rattle.stages.proofs.Drying.{built-kept}

@@ -1,9 +1,9 @@
 -- The dry run tells what the model's work lacks, and the run on the lent tables is the model's work. Assumes nothing.
 use mathlib.Core.Path.{_≡_, refl, sym, ap, subst, _∙_}
-use mathlib.Core.Logic.{_⊎_, inl, inr}
+use mathlib.Core.Logic.{inl}
 use mathlib.Core.Bool.{Bool, true, false, cond}
 use mathlib.Core.List.{List, [], _∷_, _++_}
-use Prim.Native.Nat.{ℕ, zero, suc, _+_, _*_, _-_, _≤_, _<_, min}
+use Prim.Native.Nat.{ℕ, suc, _+_, _*_, _-_, _≤_, _<_, min}
 use native.Mathlib.Omega.{arith}
 use borrow.Author.Tests.{ltb-true, ltb-false, lt-ltb, le-ltb, eqb-true, eqb-false}
 use lib.Dec.{eqb, ltb}
@@ -13,15 +13,15 @@ use Rattle.model.specs.Limits.{greatest, mostFill}
 use Rattle.model.specs.Words.{flat, raised, Sink, putBatch, putEach}
 use Rattle.model.specs.Signs.{iff, onlyif}
 use Rattle.model.specs.Nodes.{bump}
-use Rattle.model.specs.Buckets.{Pending, Outputs, Extended, ifPending, present, positionsAfter, fronts, outputsOf, structure, extend}
+use Rattle.model.specs.Buckets.{Pending, Outputs, Extended, present, positionsAfter, fronts, outputsOf, structure, extend}
 use Rattle.model.specs.Emit.{Em}
 use Rattle.model.specs.Machine.{Machine, pending, totalOf}
 use Rattle.model.specs.Bounds.{valuesFrom, missing, Work, stage, plus1, follow, Clauses}
 use Rattle.model.specs.Calls.{built, work, worked}
 use Rattle.model.proofs.Literals.{by-test}
-use Rattle.model.proofs.Emission.{em, Fits}
-use Rattle.model.proofs.Frame.{Counts, count, tally}
-use Rattle.model.proofs.Bounding.{wk, onWork, stages, values, laid, work-fits, built-bounds, workInUse, cut, scratch, scratch-counts, scratch-next, stage-rises}
+use Rattle.model.proofs.Emission.{em}
+use Rattle.model.proofs.Frame.{Counts, count}
+use Rattle.model.proofs.Bounding.{wk, onWork, stages, values, laid, work-fits, built-bounds, scratch, scratch-counts, scratch-next, stage-rises}
 use Rattle.party.specs.Read.{partyOf, machineOf}
 use Rattle.party.specs.declared.Party.{Party}
 use Rattle.party.specs.declared.State.{State}
@@ -29,8 +29,8 @@ use Rattle.buckets.specs.Read.{extendedOf}
 use Rattle.buckets.specs.declared.Built.{Built}
 use Rattle.bounds.specs.Index as index
 use Rattle.bounds.specs.declared.Bounded.{Bounded}
-use Rattle.staging.specs.Built.{Copied, settledOf, nodesOf, Buildable}
-use Rattle.staging.proofs.Builds.{extendOf, readBuilt, built-reads, Left, built-leaves, built-is, pending-none, pending-some, buildable, Alike, extend-alike, settled-drawn}
+use Rattle.staging.specs.Built.{Copied, settledOf, nodesOf}
+use Rattle.staging.proofs.Builds.{extendOf, readBuilt, built-reads, built-leaves, built-is, pending-none, pending-some, buildable, Alike, extend-alike, settled-drawn}
 use Rattle.stages.specs.Ask.{valuesOf, Both, keptOf, verdictOf, lacking, Ready, Dry, Enough, workedOf, encoded}
 use Rattle.stages.specs.declared.Cut.{Cut}
 use Rattle.stages.proofs.Steps.{workOf}

@@ -14,14 +14,6 @@ use Rattle.encoder.proofs.Reserves.{reserve-damaged, reserve-wide, rese
 use borrow.Author.Needs.{needs}
 use Rattle.encoder.proofs.run_reserve.Statement.{statement}
 use Rattle.encoder.proofs.run_reserve.Tie as tie
-use Rattle.encoder.proofs.run_reserve.Reads as reads
-use Rattle.encoder.proofs.run_reserve.Lts as lts
-use Rattle.buckets.proofs.needs_after.Reads as needs-after-reads
-use Rattle.damage.proofs.all_damaged.Reads as all-damaged-reads
-use Rattle.encoder.proofs.node_room.Reads as node-room-reads
-use Rattle.party.proofs.total.Reads as total-reads
-use Rattle.staging.proofs.reserve_on.Reads as reserve-on-reads
-use Rattle.staging.proofs.reserve_short.Reads as reserve-short-reads
 
 all-damaged-requires : tie.Need-all-damaged-requires
 all-damaged-requires c κs = search needs

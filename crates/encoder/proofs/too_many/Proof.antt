@@ -4,12 +4,6 @@ use Rattle.encoder.proofs.Ranges.{many-ups, many-downs, many-counted, k
 use borrow.Author.Needs.{needs}
 use Rattle.encoder.proofs.too_many.Statement.{statement}
 use Rattle.encoder.proofs.too_many.Tie as tie
-use Rattle.encoder.proofs.too_many.Reads as reads
-use Rattle.encoder.proofs.too_many.Lts as lts
-use Rattle.bounds.proofs.index_of.Reads as index-of-reads
-use Rattle.bounds.proofs.missing_of.Reads as missing-of-reads
-use Rattle.encoder.proofs.bound_room.Reads as bound-room-reads
-use Rattle.stages.proofs.kept_bounds.Reads as kept-bounds-reads
 
 bound-room-requires : tie.Need-bound-room-requires
 bound-room-requires c κs = search needs
