@@ -1,8 +1,8 @@
 -- The refusals of an encoding, in their order. Assumes nothing.
-use mathlib.Core.Path.{_≡_, refl, sym, ap, _∙_}
+use mathlib.Core.Path.{_≡_, refl, sym, _∙_}
 use mathlib.Core.Bool.{Bool, true, false, cond, _&&_, true≢false}
-use mathlib.Core.List.{List, [], _∷_}
-use Prim.Native.Nat.{ℕ, zero, suc, _+_, _≤_, _<_}
+use mathlib.Core.List.{List}
+use Prim.Native.Nat.{ℕ, zero, suc, _+_}
 use native.Mathlib.Omega.{arith}
 use borrow.Author.Tests.{eqb-true}
 use lib.Dec.{eqb, ltb}
@@ -11,10 +11,9 @@ use Rattle.model.specs.Limits.{greatest}
 use Rattle.model.specs.Words.{flat}
 use Rattle.model.specs.Replies.{Accepted, TooManyBounds, TooWide, NoNodes, NoVariables, NoRoom, Damaged}
 use Rattle.model.specs.Machine.{Machine, totalOf}
-use Rattle.model.specs.Bounds.{run, upValues, downValues, Work, Clauses}
-use Rattle.model.specs.Bounds as bounds
+use Rattle.model.specs.Bounds.{run, upValues, downValues}
 use Rattle.model.specs.Damage.{allDamaged}
-use Rattle.model.specs.Calls.{Replied, replied, built, tooWide, noNodes, work, worked, leaving, encodeValues, encodeAsked, encode, encodeUp, encodeDown, encodeBoth}
+use Rattle.model.specs.Calls.{Replied, replied, built, tooWide, noNodes, work, leaving, encodeValues, encodeAsked, encode, encodeUp, encodeDown, encodeBoth}
 use Rattle.model.proofs.Literals.{both}
 use Rattle.stages.specs.Ask.{valuesOf, verdictOf, lacking, encoded}
 use Rattle.stages.specs.declared.Cut.{Cut}

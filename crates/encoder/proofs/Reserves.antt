@@ -1,5 +1,5 @@
 -- The refusals of a reserve, in their order. Assumes nothing.
-use mathlib.Core.Path.{_≡_, sym}
+use mathlib.Core.Path.{_≡_}
 use mathlib.Core.Bool.{true, false}
 use Prim.Native.Nat.{_+_}
 use lib.Dec.{ltb}

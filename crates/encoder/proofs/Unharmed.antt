@@ -1,5 +1,5 @@
 -- What is known where nothing is damaged. Assumes nothing.
-use mathlib.Core.Path.{_≡_, refl, sym, ap, _∙_}
+use mathlib.Core.Path.{_≡_, refl, ap, _∙_}
 use mathlib.Core.List.{List}
 use mathlib.Core.Bool.{Bool, true, false, not, _||_, true≢false}
 use Prim.Native.Nat.{ℕ, _+_, _*_, _/_, _≤_, _<_, min}
@@ -15,7 +15,7 @@ use Rattle.model.specs.Damage.{anyBad, anyBadOutput, partyDamaged, nodesDamaged
 use Rattle.model.specs.Calls.{tooWide, noNodes}
 use Rattle.party.specs.Read.{partyOf}
 use Rattle.party.specs.declared.Party as declared
-use Rattle.buckets.specs.Read.{Within, pendingFrom, outputsAt, needsAfter}
+use Rattle.buckets.specs.Read.{pendingFrom, outputsAt, needsAfter}
 use Rattle.buckets.specs.declared.Needs.{Needs}
 use Rattle.staging.specs.Sound.{Sound}
 use Rattle.staging.specs.Built.{nodesOf, Buildable}

@@ -1,6 +1,6 @@
 -- The dry run tells what the model's work lacks, and the run on the lent tables is the model's work. Assumes nothing.
 use mathlib.Core.Path.{_≡_, refl, sym, ap, subst, _∙_}
-use mathlib.Core.Logic.{_⊎_, inl, inr}
+use mathlib.Core.Logic.{inl}
 use mathlib.Core.Bool.{Bool, true, false, cond}
 use mathlib.Core.List.{List, [], _∷_, _++_}
 use Prim.Native.Nat.{ℕ, zero, suc, _+_, _*_, _-_, _≤_, _<_, min}
@@ -8,20 +8,20 @@ use native.Mathlib.Omega.{arith}
 use borrow.Author.Tests.{ltb-true, ltb-false, lt-ltb, le-ltb, eqb-true, eqb-false}
 use lib.Dec.{eqb, ltb}
 use lib.IntN.{ℤ}
-use lib.ListN.{length, take}
+use lib.ListN.{length, length-append, take}
 use Rattle.model.specs.Limits.{greatest, mostFill}
 use Rattle.model.specs.Words.{flat, raised, Sink, putBatch, putEach}
 use Rattle.model.specs.Signs.{iff, onlyif}
 use Rattle.model.specs.Nodes.{bump}
-use Rattle.model.specs.Buckets.{Pending, Outputs, Extended, ifPending, present, positionsAfter, fronts, outputsOf, structure, extend}
+use Rattle.model.specs.Buckets.{Pending, Outputs, Extended, present, positionsAfter, fronts, outputsOf, structure, extend}
 use Rattle.model.specs.Emit.{Em}
 use Rattle.model.specs.Machine.{Machine, pending, totalOf}
-use Rattle.model.specs.Bounds.{valuesFrom, missing, Work, stage, plus1, follow, Clauses}
+use Rattle.model.specs.Bounds.{run, elem, valuesFrom, missing, Work, stage, plus1, follow, Clauses}
 use Rattle.model.specs.Calls.{built, work, worked}
 use Rattle.model.proofs.Literals.{by-test}
-use Rattle.model.proofs.Emission.{em, Fits}
-use Rattle.model.proofs.Frame.{Counts, count, tally}
-use Rattle.model.proofs.Bounding.{wk, onWork, stages, values, laid, work-fits, built-bounds, workInUse, cut, scratch, scratch-counts, scratch-next, stage-rises}
+use Rattle.model.proofs.Emission.{em}
+use Rattle.model.proofs.Frame.{Counts, count}
+use Rattle.model.proofs.Bounding.{wk, onWork, stages, values, laid, work-fits, built-bounds, scratch, scratch-counts, scratch-next, stage-rises}
 use Rattle.party.specs.Read.{partyOf, machineOf}
 use Rattle.party.specs.declared.Party.{Party}
 use Rattle.party.specs.declared.State.{State}
@@ -29,12 +29,21 @@ use Rattle.buckets.specs.Read.{extendedOf}
 use Rattle.buckets.specs.declared.Built.{Built}
 use Rattle.bounds.specs.Index as index
 use Rattle.bounds.specs.declared.Bounded.{Bounded}
-use Rattle.staging.specs.Built.{Copied, settledOf, nodesOf, Buildable}
-use Rattle.staging.proofs.Builds.{extendOf, readBuilt, built-reads, Left, built-leaves, built-is, pending-none, pending-some, buildable, Alike, extend-alike, settled-drawn}
+use Rattle.staging.specs.Built.{Copied, settledOf, nodesOf}
+use Rattle.staging.proofs.Builds.{extendOf, readBuilt, built-reads, built-leaves, built-is, pending-none, pending-some, buildable, Alike, extend-alike, settled-drawn}
 use Rattle.stages.specs.Ask.{valuesOf, Both, keptOf, verdictOf, lacking, Ready, Dry, Enough, workedOf, encoded}
 use Rattle.stages.specs.declared.Cut.{Cut}
 use Rattle.stages.proofs.Steps.{workOf}
 use Rattle.stages.proofs.Twins.{Twin, same-values, stages-twin}
+
+-- ---- values
+pub missing-le : (us vs : List ℕ) → missing us vs ≤ length vs
+missing-le us [] = omega arith
+missing-le us (v ∷ vs) = by-test (λ (x : ℕ). x ≤ suc (length vs)) (elem v us) (λ q. omega (arith, missing-le us vs)) (λ q. omega (arith, missing-le (v ∷ us) vs))
+
+pub length-run : (b n : ℕ) → length (run b n) ≡ n
+length-run b zero = refl
+length-run b (suc n) = ap suc (length-run (suc b) n)
 
 -- ---- a build's outputs are as many as 01 allows
 length-fronts : (qs : List (List ℕ)) → length (fronts qs) ≡ length qs
@@ -121,7 +130,7 @@ module _ (s : State) (t bs : List ℕ) (up down : Cut) (table records : List ℕ
         downs = a .downs;
         low = a .low;
         few = omega (arith, a .few);
-        inside = omega (arith, a .few, c′ .long, d .long);
+        inside = omega (arith, c′ .long, d .room);
       }
 
   module _ (next : ℕ) (ws : List ℤ) (room : length ws < mostFill) (ws₀ : List ℤ) where
@@ -158,7 +167,7 @@ module _ (s : State) (t bs : List ℕ) (up down : Cut) (table records : List ℕ
     room₁ = rw (kept, built-bounds m) (d .ready .asks .inside)
 
     room₂ : 3 * (w₁ .count + missing (values w₁) (valuesOf up ++ valuesOf down)) ≤ length (w₂ .bounds)
-    room₂ = rw (kept, built-bounds m) (let i = d .ready .asks .few in omega (arith, c′ .long, d .long))
+    room₂ = rw (kept, built-bounds m) (omega (arith, c′ .long, d .room))
 
     dry-em : (x : Work Sink) → x ≡ stages bump putBatch putEach (b .count) (take (b .len) (b .outputs)) (valuesOf up) (valuesOf down) w₂
         → x .em ≡ scratch (valuesOf up) (valuesOf down) B t₁ s₀ .em
@@ -183,8 +192,8 @@ module _ (s : State) (t bs : List ℕ) (up down : Cut) (table records : List ℕ
         let g : ltb (greatest + 1) (w .next) ≡ ltb (greatest + 1) (W .em .next) = ap (ltb (greatest + 1)) n ∙ scratch-next (valuesOf up) (valuesOf down) B t₁ s₀ (a .long) (a .long′) (a .begins) in
         q ∙ verdict-same (w .next) (W .em .next) (w .fill) (s .shared .fill + length (flat (W .em .sink))) (length ws) g
         (λ low.
-            let y = ap (λ (z : Work Counts). z .em .sink .fill) (scratch-counts (valuesOf up) (valuesOf down) B t₁ s₀ (a .long) (a .long′) (a .begins) (inl (omega (arith, n)))) in
-            cut-compares (w .fill) (s .shared .fill + length (flat (W .em .sink))) (length ws) (ap (λ (z : ℕ). min (z + 0) mostFill) f ∙ y) room)
+        let y = ap (λ (z : Work Counts). z .em .sink .fill) (scratch-counts (valuesOf up) (valuesOf down) B t₁ s₀ (a .long) (a .long′) (a .begins) (inl (omega (arith, n)))) in
+        cut-compares (w .fill) (s .shared .fill + length (flat (W .em .sink))) (length ws) (ap (λ (z : ℕ). min (z + 0) mostFill) f ∙ y) room)
 
 -- ---- the run on the lent tables
 module _ (s : State) (next : ℕ) (t bs : List ℕ) (ws : List ℤ) (up down : Cut) (total : ℕ) (r : Ready s t bs up down) (k : total ≡ totalOf (partyOf (s .party)))
@@ -277,7 +286,20 @@ module _ (s : State) (t bs : List ℕ) (up down : Cut) (table records : List ℕ
   scratch-tells next ws₀ t₂ records″ ws₂ w e v room q ws l h =
       short-is s t bs up down table records d b t₀ t₁ records′ c at-kept e₁ next ws (omega arith) ws₀ t₂ records″ ws₂ w (rw eo at e) v (rw (sym l) at q)
 
--- the refusals before have found room in a scratch table too
-pub dry-ready : (s : State) (t bs : List ℕ) (up down : Cut) (table records : List ℕ) (n : ℕ) → Ready s t bs up down → 8 * nodesOf (partyOf (s .party)) ≤ n → n ≡ length table → 3072 ≡ length records
-    → Dry s t bs up down table records
-dry-ready s t bs up down table records n r h e l = record { ready = r; builds = buildable (partyOf (s .party)) t table n (r .builds) h e; long = l }
+-- the refusals before have found room in scratch tables too
+module _ (s : State) (t bs : List ℕ) (up down : Cut) (table records : List ℕ) (n : ℕ) (r : Ready s t bs up down) (h : 8 * nodesOf (partyOf (s .party)) ≤ n) (e : n ≡ length table) where
+  pub dry-ready : 3072 ≡ length records → Dry s t bs up down table records
+  dry-ready l = record { ready = r; builds = buildable (partyOf (s .party)) t table n (r .builds) h e; room = omega (arith, r .asks .few) }
+
+  pub dry-few : keptOf (s .party) + (up .n + down .n) ≤ 64 → 192 ≡ length records → Dry s t bs up down table records
+  dry-few k l = record {
+    ready = r;
+    builds = buildable (partyOf (s .party)) t table n (r .builds) h e;
+    room = omega (
+      arith,
+      missing-le (valuesFrom bs 0 (keptOf (s .party))) (valuesOf up ++ valuesOf down),
+      length-append (valuesOf up) (valuesOf down),
+      length-run (up .base) (up .n),
+      length-run (down .base) (down .n),
+    );
+  }

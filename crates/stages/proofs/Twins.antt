@@ -4,13 +4,12 @@ use mathlib.Core.Bool.{Bool, true, false, cond}
 use mathlib.Core.List.{List, [], _∷_, _++_}
 use Prim.Native.Nat.{ℕ, zero, suc, _+_, _*_, _^_, _≤_, _<_}
 use native.Mathlib.Omega.{arith}
-use borrow.Author.Tests.{ltb-true, ltb-false, lt-ltb, le-ltb}
-use lib.Dec.{eqb, ltb}
-use lib.ListN.{length, getD, take, drop, set, length-append}
-use lib.Seq.{sets, sets-eq, take-at, getD-take, take-set-lt, length-take-le, length-sets}
-use Rattle.model.specs.Logic.{Lit, pL}
+use borrow.Author.Tests.{ltb-true, ltb-false}
+use lib.Dec.{ltb}
+use lib.ListN.{length, take, drop, set, length-append}
+use lib.Seq.{sets, sets-eq, take-at, getD-take, take-set-lt, length-take-le}
+use Rattle.model.specs.Logic.{Lit}
 use Rattle.model.specs.Signs.{Dir, iff, onlyif}
-use Rattle.model.specs.Compare.{outLits, comparator}
 use Rattle.model.specs.Machine.{Record, recordAt, markedIn, dirPlace, findFrom, find}
 use Rattle.model.specs.Bounds.{valuesFrom, missing, Work, recorded, compared, boundAll, emitted, stage}
 use Rattle.model.proofs.Bounding.{wk, stages, values, learn, missing-append, bound-values, bound-count, bound-length, stage-records, stage-values, stage-length, find-new, found}

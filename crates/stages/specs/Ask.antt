@@ -4,7 +4,6 @@ use mathlib.Core.Bool.{cond}
 use mathlib.Core.List.{List, _++_}
 use Prim.Native.Nat.{ℕ, _+_, _*_, _-_, _≤_, _<_}
 use lib.Dec.{eqb, ltb}
-use lib.IntN.{ℤ}
 use lib.ListN.{length}
 use Rattle.model.specs.Limits.{greatest, mostTotal}
 use Rattle.model.specs.Words.{flat}
@@ -91,7 +90,7 @@ pub record Ready (s : State) (t bs : List ℕ) (up down : Cut) : Type 0 where
 pub record Dry (s : State) (t bs : List ℕ) (up down : Cut) (table records : List ℕ) : Type 0 where
   pub ready : Ready s t bs up down
   pub builds : Buildable (partyOf (s .party)) table
-  pub long : 3072 ≡ length records
+  pub room : 3 * (keptOf (s .party) + missing (valuesFrom bs 0 (keptOf (s .party))) (valuesOf up ++ valuesOf down)) ≤ length records
 
 -- nothing is lacking
 pub record Enough (ups downs : List ℕ) (m : Machine) : Type 0 where

@@ -1,7 +1,7 @@
 -- A build from the state is the model's, and builds on tables that begin alike end alike. Assumes nothing.
 use mathlib.Core.Path.{_≡_, refl, sym, ap, _∙_}
-use mathlib.Core.List.{List, [], _∷_, _++_}
-use mathlib.Core.Bool.{Bool, true, false, cond}
+use mathlib.Core.List.{List, [], _∷_}
+use mathlib.Core.Bool.{Bool, true, false}
 use Prim.Native.Nat.{ℕ, zero, suc, _+_, _*_, _≤_, _<_}
 use native.Mathlib.Omega.{arith}
 use native.Mathlib.Numerals.{add-one}
@@ -12,7 +12,7 @@ use lib.ListN.{length, getD, take, drop, replicate, length-set, set}
 use lib.Seq.{drop-cons, take-suc, take-suc-set, length-sets}
 use Rattle.model.specs.Limits.{mostTerms}
 use Rattle.model.specs.Nodes.{Node, putNodes, putNode, inTable, nodeWords}
-use Rattle.model.specs.Buckets.{Pending, Outputs, present, ifPending, nodesAfter, structure, Made, Extended, extend}
+use Rattle.model.specs.Buckets.{Pending, Outputs, present, ifPending, nodesAfter, structure, Extended, extend}
 use Rattle.model.specs.Machine.{Machine, pendingOf, pending, totalOf}
 use Rattle.model.specs.Machine as machine
 use Rattle.model.specs.Calls.{built}
@@ -21,7 +21,7 @@ use Rattle.model.proofs.Literals.{by-test}
 use Rattle.party.specs.Read.{partyOf, machineOf}
 use Rattle.party.specs.declared.Party.{Party}
 use Rattle.party.specs.declared.State.{State}
-use Rattle.buckets.specs.Read.{Within, pendingFrom, outputsAt, extendedOf}
+use Rattle.buckets.specs.Read.{pendingFrom, outputsAt, extendedOf}
 use Rattle.buckets.specs.declared.Built.{Built}
 use Rattle.staging.specs.Built.{Copied, settledOf, nodesOf, Buildable}
 

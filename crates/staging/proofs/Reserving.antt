@@ -6,10 +6,9 @@ use mathlib.Core.List.{List, []}
 use Prim.Native.Nat.{ℕ, _+_, _*_, _-_, _≤_, _<_}
 use native.Mathlib.Omega.{arith}
 use borrow.Author.Tests.{lt-ltb, ltb-true, ltb-false}
-use lib.Dec.{ltb, eqb}
+use lib.Dec.{ltb}
 use lib.IntN.{ℤ}
 use lib.ListN.{length, take}
-use lib.Seq.{sets}
 use Rattle.model.specs.Limits.{greatest}
 use Rattle.model.specs.Words.{flat}
 use Rattle.model.specs.Nodes.{bump}
@@ -27,7 +26,7 @@ use Rattle.buckets.specs.Read.{extendedOf}
 use Rattle.buckets.specs.declared.Built.{Built}
 use Rattle.emitter.specs.State.{tab}
 use Rattle.staging.specs.Built.{Copied, settledOf, nodesOf, Buildable, reserved, drawnTo}
-use Rattle.staging.proofs.Builds.{extendOf, readBuilt, built-reads, built-leaves, built-is, settled-drawn, Alike, extend-alike}
+use Rattle.staging.proofs.Builds.{extendOf, built-reads, built-leaves, built-is, settled-drawn, Alike, extend-alike}
 
 -- numbers that are equal where either is below the word's top
 pub beyond : (a b : ℕ) → ((a < 0xffff_ffff) ⊎ (b < 0xffff_ffff) → a ≡ b) → ltb (greatest + 1) a ≡ ltb (greatest + 1) b

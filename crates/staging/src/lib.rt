@@ -14,9 +14,9 @@ ghost use Rattle.buckets.specs.Read.{extendedOf};
 ghost use Rattle.party.specs.Read.{machineOf, partyOf};
 ghost use Rattle.staging.specs.Built.{Copied, settledOf, nodesOf, Buildable, reserved};
 use buckets::Built;
+use emitter::reserve::reserve_outputs;
 use literal::GREATEST;
 use party::Party;
-use emitter::reserve::reserve_outputs;
 use party::Shared;
 use party::State;
 

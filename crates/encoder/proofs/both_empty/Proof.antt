@@ -2,8 +2,6 @@
 use Rattle.encoder.proofs.Ranges.{empty-rest, empty-not}
 use Rattle.encoder.proofs.both_empty.Statement.{statement}
 use Rattle.encoder.proofs.both_empty.Tie as tie
-use Rattle.encoder.proofs.both_empty.Reads as reads
-use Rattle.encoder.proofs.both_empty.Lts as lts
 
 returns : tie.Need-returns
 returns c = search empty-rest

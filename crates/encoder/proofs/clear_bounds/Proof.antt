@@ -8,8 +8,6 @@ use Rattle.model.specs.Calls.{clearBounds}
 use Rattle.encoder.proofs.Over.{bounds-more, bounds-all}
 use Rattle.encoder.proofs.clear_bounds.Statement.{statement}
 use Rattle.encoder.proofs.clear_bounds.Tie as tie
-use Rattle.encoder.proofs.clear_bounds.Reads as reads
-use Rattle.encoder.proofs.clear_bounds.Lts as lts
 
 abbrev Inv-loop : tie.InvT-loop
 Inv-loop table₀ n i₀ table i = (i ≤ n) × (length table ≡ length table₀) × (table ≡ clearBounds table₀ i)

@@ -8,8 +8,6 @@ use Rattle.model.specs.Calls.{clearNodes}
 use Rattle.encoder.proofs.Over.{nodes-more, nodes-all}
 use Rattle.encoder.proofs.clear_nodes.Statement.{statement}
 use Rattle.encoder.proofs.clear_nodes.Tie as tie
-use Rattle.encoder.proofs.clear_nodes.Reads as reads
-use Rattle.encoder.proofs.clear_nodes.Lts as lts
 
 abbrev Inv-loop : tie.InvT-loop
 Inv-loop table₀ n i₀ table i = (i ≤ n) × (length table ≡ length table₀) × (table ≡ clearNodes table₀ i)

@@ -3,11 +3,6 @@ use Rattle.encoder.proofs.Ranges.{down-cut}
 use borrow.Author.Needs.{needs}
 use Rattle.encoder.proofs.cut_down.Statement.{statement}
 use Rattle.encoder.proofs.cut_down.Tie as tie
-use Rattle.encoder.proofs.cut_down.Reads as reads
-use Rattle.encoder.proofs.cut_down.Lts as lts
-use Rattle.encoder.proofs.least.Reads as least-reads
-use Rattle.encoder.proofs.most.Reads as most-reads
-use Rattle.encoder.proofs.span.Reads as span-reads
 
 most-requires : tie.Need-most-requires
 most-requires c κs = search needs

@@ -3,10 +3,6 @@ use Rattle.encoder.proofs.Ranges.{up-cut}
 use borrow.Author.Needs.{needs}
 use Rattle.encoder.proofs.cut_up.Statement.{statement}
 use Rattle.encoder.proofs.cut_up.Tie as tie
-use Rattle.encoder.proofs.cut_up.Reads as reads
-use Rattle.encoder.proofs.cut_up.Lts as lts
-use Rattle.encoder.proofs.least.Reads as least-reads
-use Rattle.encoder.proofs.span.Reads as span-reads
 
 least-requires : tie.Need-least-requires
 least-requires c κs = search needs

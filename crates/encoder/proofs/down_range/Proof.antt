@@ -4,8 +4,6 @@ use Rattle.encoder.specs.Read.{downRange}
 use borrow.Author.Needs.{needs}
 use Rattle.encoder.proofs.down_range.Statement.{statement}
 use Rattle.encoder.proofs.down_range.Tie as tie
-use Rattle.encoder.proofs.down_range.Reads as reads
-use Rattle.encoder.proofs.down_range.Lts as lts
 
 enum-told : tie.Need-enum-told
 enum-told c = search needs

@@ -14,13 +14,6 @@ use Rattle.encoder.proofs.Encodes.{asked-many, asked-wide, asked-nodes,
 use borrow.Author.Needs.{needs}
 use Rattle.encoder.proofs.encode_asked.Statement.{statement}
 use Rattle.encoder.proofs.encode_asked.Tie as tie
-use Rattle.encoder.proofs.encode_asked.Reads as reads
-use Rattle.encoder.proofs.encode_asked.Lts as lts
-use Rattle.buckets.proofs.needs_after.Reads as needs-after-reads
-use Rattle.encoder.proofs.node_room.Reads as node-room-reads
-use Rattle.encoder.proofs.too_many.Reads as too-many-reads
-use Rattle.stages.proofs.encode_short.Reads as encode-short-reads
-use Rattle.stages.proofs.perform.Reads as perform-reads
 
 wide : (s : tie.Start) → length (s .args .state .party .weights) ≡ 128
 wide s = search needs

@@ -13,16 +13,6 @@ use Rattle.encoder.proofs.Encodes.{ask-damaged, ask-none, ask-some}
 use borrow.Author.Needs.{needs}
 use Rattle.encoder.proofs.run_encode.Statement.{statement}
 use Rattle.encoder.proofs.run_encode.Tie as tie
-use Rattle.encoder.proofs.run_encode.Reads as reads
-use Rattle.encoder.proofs.run_encode.Lts as lts
-use Rattle.damage.proofs.all_damaged.Reads as all-damaged-reads
-use Rattle.encoder.proofs.both_empty.Reads as both-empty-reads
-use Rattle.encoder.proofs.cut_down.Reads as cut-down-reads
-use Rattle.encoder.proofs.cut_up.Reads as cut-up-reads
-use Rattle.encoder.proofs.down_range.Reads as down-range-reads
-use Rattle.encoder.proofs.encode_asked.Reads as encode-asked-reads
-use Rattle.encoder.proofs.up_range.Reads as up-range-reads
-use Rattle.party.proofs.total.Reads as total-reads
 
 all-damaged-requires : tie.Need-all-damaged-requires
 all-damaged-requires c κs = search needs

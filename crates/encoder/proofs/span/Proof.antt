@@ -3,8 +3,6 @@ use Rattle.encoder.proofs.Ranges.{span-none}
 use borrow.Author.Needs.{needs}
 use Rattle.encoder.proofs.span.Statement.{statement}
 use Rattle.encoder.proofs.span.Tie as tie
-use Rattle.encoder.proofs.span.Reads as reads
-use Rattle.encoder.proofs.span.Lts as lts
 
 returns : tie.Need-returns
 returns c = span-none _ _ _ (c .if1 .taken)

@@ -8,11 +8,6 @@ use Rattle.encoder.proofs.Over.{over-damaged, over-done}
 use borrow.Author.Needs.{needs}
 use Rattle.encoder.proofs.start_over.Statement.{statement}
 use Rattle.encoder.proofs.start_over.Tie as tie
-use Rattle.encoder.proofs.start_over.Reads as reads
-use Rattle.encoder.proofs.start_over.Lts as lts
-use Rattle.damage.proofs.tables_damaged.Reads as tables-damaged-reads
-use Rattle.encoder.proofs.clear_bounds.Reads as clear-bounds-reads
-use Rattle.encoder.proofs.clear_nodes.Reads as clear-nodes-reads
 
 tables-damaged-requires : tie.Need-tables-damaged-requires
 tables-damaged-requires c κs = search needs

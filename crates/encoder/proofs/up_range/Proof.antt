@@ -4,8 +4,6 @@ use Rattle.encoder.specs.Read.{upRange}
 use borrow.Author.Needs.{needs}
 use Rattle.encoder.proofs.up_range.Statement.{statement}
 use Rattle.encoder.proofs.up_range.Tie as tie
-use Rattle.encoder.proofs.up_range.Reads as reads
-use Rattle.encoder.proofs.up_range.Lts as lts
 
 enum-known-ask : tie.Need-enum-known-ask
 enum-known-ask c = search needs

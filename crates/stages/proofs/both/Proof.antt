@@ -4,9 +4,6 @@ use Rattle.stages.proofs.Steps.{asks-up, asks-down, both-is}
 use borrow.Author.Needs.{needs}
 use Rattle.stages.proofs.both.Statement.{statement}
 use Rattle.stages.proofs.both.Tie as tie
-use Rattle.stages.proofs.both.Reads as reads
-use Rattle.stages.proofs.both.Lts as lts
-use Rattle.stages.proofs.stage.Reads as stage-reads
 
 stage-requires : tie.Need-stage-requires
 stage-requires c κs = asks-up _ _ _ _ _ (c .before .before .before .before .before .pre)

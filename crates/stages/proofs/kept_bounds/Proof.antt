@@ -2,8 +2,6 @@
 use Rattle.stages.proofs.Steps.{kept-none, kept-some}
 use Rattle.stages.proofs.kept_bounds.Statement.{statement}
 use Rattle.stages.proofs.kept_bounds.Tie as tie
-use Rattle.stages.proofs.kept_bounds.Reads as reads
-use Rattle.stages.proofs.kept_bounds.Lts as lts
 
 returns : tie.Need-returns
 returns c = search kept-none

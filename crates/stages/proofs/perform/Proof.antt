@@ -3,12 +3,6 @@ use Rattle.stages.proofs.Drying.{perform-asks, perform-up, perform-is}
 use borrow.Author.Needs.{needs}
 use Rattle.stages.proofs.perform.Statement.{statement}
 use Rattle.stages.proofs.perform.Tie as tie
-use Rattle.stages.proofs.perform.Reads as reads
-use Rattle.stages.proofs.perform.Lts as lts
-use Rattle.stages.proofs.both.Reads as both-reads
-use Rattle.stages.proofs.worked.Reads as worked-reads
-use Rattle.staging.proofs.build_on.Reads as build-on-reads
-use Rattle.staging.proofs.settled.Reads as settled-reads
 
 build-on-requires : tie.Need-build-on-requires
 build-on-requires c κs = search needs

@@ -3,14 +3,6 @@ use Rattle.stages.proofs.Drying.{scratch-asks, scratch-tells}
 use borrow.Author.Needs.{needs}
 use Rattle.stages.proofs.short_in.Statement.{statement}
 use Rattle.stages.proofs.short_in.Tie as tie
-use Rattle.stages.proofs.short_in.Reads as reads
-use Rattle.stages.proofs.short_in.Lts as lts
-use Rattle.stages.proofs.both.Reads as both-reads
-use Rattle.stages.proofs.kept_bounds.Reads as kept-bounds-reads
-use Rattle.stages.proofs.no_words.Reads as no-words-reads
-use Rattle.stages.proofs.verdict.Reads as verdict-reads
-use Rattle.staging.proofs.build_on.Reads as build-on-reads
-use Rattle.staging.proofs.copy_words.Reads as copy-words-reads
 
 kept-bounds-requires : tie.Need-kept-bounds-requires
 kept-bounds-requires c κs = search needs

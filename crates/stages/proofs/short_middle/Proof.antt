@@ -3,11 +3,6 @@ use Rattle.stages.proofs.Drying.{dry-ready}
 use borrow.Author.Needs.{needs}
 use Rattle.stages.proofs.short_middle.Statement.{statement}
 use Rattle.stages.proofs.short_middle.Tie as tie
-use Rattle.stages.proofs.short_middle.Reads as reads
-use Rattle.stages.proofs.short_middle.Lts as lts
-use Rattle.stages.proofs.record_room.Reads as record-room-reads
-use Rattle.stages.proofs.short_in.Reads as short-in-reads
-use Rattle.staging.proofs.middle_room.Reads as middle-room-reads
 
 middle-room-requires : tie.Need-middle-room-requires
 middle-room-requires c κs = search needs

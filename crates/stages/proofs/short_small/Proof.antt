@@ -3,11 +3,6 @@ use Rattle.stages.proofs.Drying.{dry-ready}
 use borrow.Author.Needs.{needs}
 use Rattle.stages.proofs.short_small.Statement.{statement}
 use Rattle.stages.proofs.short_small.Tie as tie
-use Rattle.stages.proofs.short_small.Reads as reads
-use Rattle.stages.proofs.short_small.Lts as lts
-use Rattle.stages.proofs.record_room.Reads as record-room-reads
-use Rattle.stages.proofs.short_in.Reads as short-in-reads
-use Rattle.staging.proofs.small_room.Reads as small-room-reads
 
 small-room-requires : tie.Need-small-room-requires
 small-room-requires c κs = search needs

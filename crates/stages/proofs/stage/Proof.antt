@@ -1,6 +1,6 @@
 -- `stage` is one direction of the model. Assumes nothing.
 use mathlib.Core.Path.{_≡_}
-use Prim.Native.Nat.{ℕ, _≤_}
+use Prim.Native.Nat.{_≤_}
 use native.Mathlib.Omega.{arith}
 use lib.ListN.{length}
 use Rattle.model.specs.Compare.{outLits}
@@ -8,14 +8,6 @@ use Rattle.stages.proofs.Steps.{stage-none, stage-some}
 use borrow.Author.Needs.{needs}
 use Rattle.stages.proofs.stage.Statement.{statement}
 use Rattle.stages.proofs.stage.Tie as tie
-use Rattle.stages.proofs.stage.Reads as reads
-use Rattle.stages.proofs.stage.Lts as lts
-use Rattle.bounds.proofs.bound_all.Reads as bound-all-reads
-use Rattle.bounds.proofs.index_of.Reads as index-of-reads
-use Rattle.comparators.proofs.pairs_of.Reads as pairs-of-reads
-use Rattle.comparators.proofs.resolve.Reads as resolve-reads
-use Rattle.emitter.proofs.emit_outputs.Reads as emit-outputs-reads
-use Rattle.stages.proofs.way.Reads as way-reads
 
 returns : tie.Need-returns
 returns c = stage-none _ _ _ _ _ (c .if1 .taken)

@@ -3,8 +3,6 @@ use Rattle.stages.proofs.Steps.{verdict-numbers, verdict-words, verdict
 use borrow.Author.Needs.{needs}
 use Rattle.stages.proofs.verdict.Statement.{statement}
 use Rattle.stages.proofs.verdict.Tie as tie
-use Rattle.stages.proofs.verdict.Reads as reads
-use Rattle.stages.proofs.verdict.Lts as lts
 
 add-if1 : tie.Need-add-if1
 add-if1 c = search needs

@@ -2,8 +2,6 @@
 use Rattle.stages.proofs.Steps.{way-only, way-if}
 use Rattle.stages.proofs.way.Statement.{statement}
 use Rattle.stages.proofs.way.Tie as tie
-use Rattle.stages.proofs.way.Reads as reads
-use Rattle.stages.proofs.way.Lts as lts
 
 returns : tie.Need-returns
 returns c = search way-only

@@ -4,8 +4,6 @@ use Rattle.stages.specs.Ask.{workedOf}
 use borrow.Author.Needs.{needs}
 use Rattle.stages.proofs.worked.Statement.{statement}
 use Rattle.stages.proofs.worked.Tie as tie
-use Rattle.stages.proofs.worked.Reads as reads
-use Rattle.stages.proofs.worked.Lts as lts
 
 sub-party : tie.Need-sub-party
 sub-party c = search needs

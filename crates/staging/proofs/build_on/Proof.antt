@@ -5,9 +5,6 @@ use Rattle.staging.proofs.Builds.{build-is}
 use borrow.Author.Needs.{needs}
 use Rattle.staging.proofs.build_on.Statement.{statement}
 use Rattle.staging.proofs.build_on.Tie as tie
-use Rattle.staging.proofs.build_on.Reads as reads
-use Rattle.staging.proofs.build_on.Lts as lts
-use Rattle.buckets.proofs.extend_structure.Reads as extend-structure-reads
 
 extend-structure-requires : tie.Need-extend-structure-requires
 extend-structure-requires c κs = search needs

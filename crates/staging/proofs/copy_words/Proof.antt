@@ -6,8 +6,6 @@ use Rattle.staging.specs.Built.{Copied}
 use Rattle.staging.proofs.Builds.{copied-none, copied-more, copied-all}
 use Rattle.staging.proofs.copy_words.Statement.{statement}
 use Rattle.staging.proofs.copy_words.Tie as tie
-use Rattle.staging.proofs.copy_words.Reads as reads
-use Rattle.staging.proofs.copy_words.Lts as lts
 
 abbrev Inv-loop : tie.InvT-loop
 Inv-loop table room₀ k i₀ room i = (i ≤ k) × Copied i table room₀ room

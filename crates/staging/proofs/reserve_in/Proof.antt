@@ -3,11 +3,6 @@ use Rattle.staging.proofs.Reserving.{reserve-counts}
 use borrow.Author.Needs.{needs}
 use Rattle.staging.proofs.reserve_in.Statement.{statement}
 use Rattle.staging.proofs.reserve_in.Tie as tie
-use Rattle.staging.proofs.reserve_in.Reads as reads
-use Rattle.staging.proofs.reserve_in.Lts as lts
-use Rattle.emitter.proofs.reserve.reserve_outputs.Reads as reserve-outputs-reads
-use Rattle.staging.proofs.build_on.Reads as build-on-reads
-use Rattle.staging.proofs.copy_words.Reads as copy-words-reads
 
 cast-copy-words : tie.Need-cast-copy-words
 cast-copy-words c = search needs

@@ -3,24 +3,16 @@ use Rattle.staging.proofs.Builds.{buildable}
 use borrow.Author.Needs.{needs}
 use Rattle.staging.proofs.reserve_middle.Statement.{statement}
 use Rattle.staging.proofs.reserve_middle.Tie as tie
-use Rattle.staging.proofs.reserve_middle.Reads as reads
-use Rattle.staging.proofs.reserve_middle.Lts as lts
-use Rattle.staging.proofs.middle_room.Reads as middle-room-reads
-use Rattle.staging.proofs.reserve_in.Reads as reserve-in-reads
 
--- src/lib.rt:120:20
 middle-room-requires : tie.Need-middle-room-requires
 middle-room-requires c κs = search needs
 
--- src/lib.rt:121:36
 slice-aggregate-reserve-in : tie.Need-slice-aggregate-reserve-in
 slice-aggregate-reserve-in c = search needs
 
--- src/lib.rt:121:5
 reserve-in-requires : tie.Need-reserve-in-requires
 reserve-in-requires c κs = (c .before .before .before .pre .0, buildable _ _ _ _ (c .before .before .before .pre .0) (c .before .before .before .pre .1) (c .before .middle-room .ensures))
 
--- src/lib.rt:116:1
 returns : tie.Need-returns
 returns c = search needs
 

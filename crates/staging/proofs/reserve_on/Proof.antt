@@ -7,11 +7,6 @@ use Rattle.staging.proofs.Reserving.{reserve-up, reserve-drawn, reserve
 use borrow.Author.Needs.{needs, length-unmapped}
 use Rattle.staging.proofs.reserve_on.Statement.{statement}
 use Rattle.staging.proofs.reserve_on.Tie as tie
-use Rattle.staging.proofs.reserve_on.Reads as reads
-use Rattle.staging.proofs.reserve_on.Lts as lts
-use Rattle.emitter.proofs.reserve.reserve_outputs.Reads as reserve-outputs-reads
-use Rattle.staging.proofs.build_on.Reads as build-on-reads
-use Rattle.staging.proofs.settled.Reads as settled-reads
 
 build-on-requires : tie.Need-build-on-requires
 build-on-requires c κs = search needs

@@ -3,24 +3,16 @@ use Rattle.staging.proofs.Builds.{buildable}
 use borrow.Author.Needs.{needs}
 use Rattle.staging.proofs.reserve_small.Statement.{statement}
 use Rattle.staging.proofs.reserve_small.Tie as tie
-use Rattle.staging.proofs.reserve_small.Reads as reads
-use Rattle.staging.proofs.reserve_small.Lts as lts
-use Rattle.staging.proofs.reserve_in.Reads as reserve-in-reads
-use Rattle.staging.proofs.small_room.Reads as small-room-reads
 
--- src/lib.rt:112:20
 small-room-requires : tie.Need-small-room-requires
 small-room-requires c κs = search needs
 
--- src/lib.rt:113:36
 slice-aggregate-reserve-in : tie.Need-slice-aggregate-reserve-in
 slice-aggregate-reserve-in c = search needs
 
--- src/lib.rt:113:5
 reserve-in-requires : tie.Need-reserve-in-requires
 reserve-in-requires c κs = (c .before .before .before .pre .0, buildable _ _ _ _ (c .before .before .before .pre .0) (c .before .before .before .pre .1) (c .before .small-room .ensures))
 
--- src/lib.rt:108:1
 returns : tie.Need-returns
 returns c = search needs
 
