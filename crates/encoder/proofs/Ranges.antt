@@ -1,7 +1,7 @@
 -- The ranges as they are cut, and the records that their values ask for. Assumes nothing.
 use mathlib.Core.Path.{_≡_, refl, sym, ap, _∙_}
 use mathlib.Core.Bool.{Bool, true, false, cond, _&&_, _||_, false≢true}
-use mathlib.Core.List.{List, [], _∷_, _++_}
+use mathlib.Core.List.{List, [], _∷_, _++_, append-nil}
 use Prim.Native.Nat.{ℕ, zero, suc, _+_, _*_, _-_, _/_, _≤_, _<_, min, max}
 use native.Mathlib.Omega.{arith}
 use borrow.Author.Tests.{lt-ltb, le-ltb, ltb-true, ltb-false, eq-eqb, ne-eqb, eqb-true}
@@ -20,7 +20,7 @@ use Rattle.party.specs.declared.Party.{Party}
 use Rattle.party.specs.declared.State.{State}
 use Rattle.stages.specs.Ask.{valuesOf, Both, keptOf}
 use Rattle.stages.specs.declared.Cut.{Cut}
-use Rattle.stages.proofs.Drying.{built-kept}
+use Rattle.stages.proofs.Drying.{missing-le, length-run, built-kept}
 use Rattle.encoder.specs.Read.{rangeOf, Cuts, Few, tooMany}
 use Rattle.encoder.specs.declared.Range.{Range}
 
@@ -95,14 +95,6 @@ crowd-above (suc n) b us = go (elem b us) refl (crowd-above n (suc b) us) (crowd
 crowd : (n b : ℕ) (us : List ℕ) → n ≤ length us + missing us (run b n)
 crowd n b us = omega (arith, crowd-above n b us, above-length b us)
 
-missing-le : (us vs : List ℕ) → missing us vs ≤ length vs
-missing-le us [] = omega arith
-missing-le us (v ∷ vs) = by-test (λ (x : ℕ). x ≤ suc (length vs)) (elem v us) (λ q. omega (arith, missing-le us vs)) (λ q. omega (arith, missing-le (v ∷ us) vs))
-
-length-run : (b n : ℕ) → length (run b n) ≡ n
-length-run b zero = refl
-length-run b (suc n) = ap suc (length-run (suc b) n)
-
 length-known : (t : List ℕ) (i n : ℕ) → length (valuesFrom t i n) ≡ n
 length-known t i zero = refl
 length-known t i (suc n) = ap suc (length-known t (suc i) n)
@@ -172,3 +164,10 @@ module _ (s : State) (next : ℕ) (t bs : List ℕ) (ws : List ℤ) (up down : C
 -- the code's sum fits
 pub few-missing : (us : List ℕ) (up down : Cut) (k : ℕ) → k ≡ missing us (valuesOf up ++ valuesOf down) → k ≤ up .n + down .n
 few-missing us up down k e = omega (arith, missing-le us (valuesOf up ++ valuesOf down), length-append (valuesOf up) (valuesOf down), length-run (up .base) (up .n), length-run (down .base) (down .n))
+
+-- where one direction asks nothing
+pub no-downs : (us : List ℕ) (up down : Cut) (k : ℕ) → down .n ≡ 0 → k ≡ missing us (valuesOf up) → k ≡ missing us (valuesOf up ++ valuesOf down)
+no-downs us up down k h e = rw (h, append-nil (valuesOf up)) e
+
+pub no-ups : (us : List ℕ) (up down : Cut) (k : ℕ) → up .n ≡ 0 → k ≡ missing us (valuesOf down) → k ≡ missing us (valuesOf up ++ valuesOf down)
+no-ups us up down k h e = rw h e

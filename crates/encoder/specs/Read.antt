@@ -67,6 +67,14 @@ pub record Few (s : State) (bs : List ℕ) (up down : Cut) : Type 0 where
   pub first : up .base + up .n ≤ 4294967296
   pub low : down .base + down .n ≤ 4294967296
 
+-- what a count of records leans on
+pub record Counts (bs : List ℕ) (old : ℕ) (up down : Cut) : Type 0 where
+  pub inside : 3 * old ≤ length bs
+  pub ups : up .n ≤ 1024
+  pub first : up .base + up .n ≤ 4294967296
+  pub downs : down .n ≤ 1024
+  pub low : down .base + down .n ≤ 4294967296
+
 -- 7: "the records after the call exceed the table"
 unfoldable pub tooMany : List ℕ → List ℕ → Machine → Bool
 tooMany ups downs m = ltb (min mostBounds (length (m .bounds) / 3)) (recordsAfter ups downs m)

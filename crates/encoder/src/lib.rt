@@ -1,7 +1,7 @@
 // The encoder's operations over the state, the source and the lent tables. The refusals stand in 01's order, each need counted before
 // any word is written: a refusal leaves everything as it was.
 ghost use mathlib.Core.Path.{_≡_};
-ghost use mathlib.Core.List.{List};
+ghost use mathlib.Core.List.{List, _++_};
 ghost use mathlib.Core.Bool.{_&&_};
 ghost use Prim.Native.Nat.{ℕ, _+_, _*_, _-_, _/_, _≤_, min, max};
 ghost use lib.Dec.{eqb};
@@ -9,12 +9,12 @@ ghost use lib.IntN.{ℤ};
 ghost use lib.ListN.{length};
 ghost use Rattle.model.specs.Limits.{mostNodes, mostBounds};
 ghost use Rattle.model.specs.Calls.{clearNodes, clearBounds, startOver, reserveCall, encodeValues};
-ghost use Rattle.model.specs.Bounds.{run, upValues, downValues};
+ghost use Rattle.model.specs.Bounds.{run, upValues, downValues, valuesFrom, missing};
 ghost use Rattle.model.specs.Machine.{totalOf};
 ghost use Rattle.party.specs.Read.{machineOf, partyOf};
 ghost use Rattle.staging.specs.Sound.{Sound};
 ghost use Rattle.stages.specs.Ask.{valuesOf};
-ghost use Rattle.encoder.specs.Read.{answerOf, encodedOf, rangeOf, upRange, downRange, Cuts, Few, tooMany, asked};
+ghost use Rattle.encoder.specs.Read.{answerOf, encodedOf, rangeOf, upRange, downRange, Cuts, Few, Counts, tooMany, asked};
 use party::Reply;
 use party::Shared;
 use party::State;
@@ -241,6 +241,39 @@ fn bound_room(len: usize) -> usize
     if len / 3 < 1024 { len / 3 } else { 1024 }
 }
 
+// How many values of one direction have no record among the first old ones.
+fn lack_one(bounds: &[u32], old: u32, cut: Cut) -> usize
+    requires { ⌜ (3 * old ≤ length (now bounds)) × (cut .n ≤ 1024) × (cut .base + cut .n ≤ 4294967296) ⌝ }
+    ensures { λ r. ⌜ r ≡ missing (valuesFrom (now (bounds .entry)) 0 old) (valuesOf cut) ⌝ }
+{
+    let places = bounds::index_of(bounds, old, cut.base, cut.n);
+    bounds::missing_up(&places, cut.base, cut.n)
+}
+
+// The same of both directions, each value counted once.
+fn lack_both(bounds: &[u32], old: u32, up: Cut, down: Cut) -> usize
+    requires { ⌜ Counts (now bounds) old up down ⌝ }
+    ensures { λ r. ⌜ r ≡ missing (valuesFrom (now (bounds .entry)) 0 old) (valuesOf up ++ valuesOf down) ⌝ }
+{
+    let a = bounds::index_of(bounds, old, up.base, up.n);
+    let b = bounds::index_of(bounds, old, down.base, down.n);
+    bounds::missing_of(&a, up.base, up.n, &b, down.base, down.n)
+}
+
+// How many asked values have no record. Most calls ask in one direction, and one index is then enough.
+fn without_record(bounds: &[u32], old: u32, up: Cut, down: Cut) -> usize
+    requires { ⌜ Counts (now bounds) old up down ⌝ }
+    ensures { λ r. ⌜ r ≡ missing (valuesFrom (now (bounds .entry)) 0 old) (valuesOf up ++ valuesOf down) ⌝ }
+{
+    if down.n == 0 {
+        return lack_one(bounds, old, up);
+    }
+    if up.n == 0 {
+        return lack_one(bounds, old, down);
+    }
+    lack_both(bounds, old, up, down)
+}
+
 // Whether the records after the call exceed the table. More values than the table has records are not walked through.
 fn too_many(state: State, bounds: &[u32], up: Cut, down: Cut) -> bool
     requires { ⌜ Few state (now bounds) up down ⌝ }
@@ -254,10 +287,7 @@ fn too_many(state: State, bounds: &[u32], up: Cut, down: Cut) -> bool
         return true;
     }
     let old = stages::kept_bounds(state.party);
-    let a = bounds::index_of(bounds, old, up.base, up.n);
-    let b = bounds::index_of(bounds, old, down.base, down.n);
-    let k = bounds::missing_of(&a, up.base, up.n, &b, down.base, down.n);
-    room < old as usize + k
+    room < old as usize + without_record(bounds, old, up, down)
 }
 
 // Where something is asked: the refusals 7 to 11, then the run.

@@ -3,12 +3,12 @@ use mathlib.Core.Path.{_≡_, refl, sym, ap, subst, _∙_}
 use mathlib.Core.Logic.{inl}
 use mathlib.Core.Bool.{Bool, true, false, cond}
 use mathlib.Core.List.{List, [], _∷_, _++_}
-use Prim.Native.Nat.{ℕ, suc, _+_, _*_, _-_, _≤_, _<_, min}
+use Prim.Native.Nat.{ℕ, zero, suc, _+_, _*_, _-_, _≤_, _<_, min}
 use native.Mathlib.Omega.{arith}
 use borrow.Author.Tests.{ltb-true, ltb-false, lt-ltb, le-ltb, eqb-true, eqb-false}
 use lib.Dec.{eqb, ltb}
 use lib.IntN.{ℤ}
-use lib.ListN.{length, take}
+use lib.ListN.{length, length-append, take}
 use Rattle.model.specs.Limits.{greatest, mostFill}
 use Rattle.model.specs.Words.{flat, raised, Sink, putBatch, putEach}
 use Rattle.model.specs.Signs.{iff, onlyif}
@@ -16,7 +16,7 @@ use Rattle.model.specs.Nodes.{bump}
 use Rattle.model.specs.Buckets.{Pending, Outputs, Extended, present, positionsAfter, fronts, outputsOf, structure, extend}
 use Rattle.model.specs.Emit.{Em}
 use Rattle.model.specs.Machine.{Machine, pending, totalOf}
-use Rattle.model.specs.Bounds.{valuesFrom, missing, Work, stage, plus1, follow, Clauses}
+use Rattle.model.specs.Bounds.{run, elem, valuesFrom, missing, Work, stage, plus1, follow, Clauses}
 use Rattle.model.specs.Calls.{built, work, worked}
 use Rattle.model.proofs.Literals.{by-test}
 use Rattle.model.proofs.Emission.{em}
@@ -35,6 +35,15 @@ use Rattle.stages.specs.Ask.{valuesOf, Both, keptOf, verdictOf, lacking,
 use Rattle.stages.specs.declared.Cut.{Cut}
 use Rattle.stages.proofs.Steps.{workOf}
 use Rattle.stages.proofs.Twins.{Twin, same-values, stages-twin}
+
+-- ---- values
+pub missing-le : (us vs : List ℕ) → missing us vs ≤ length vs
+missing-le us [] = omega arith
+missing-le us (v ∷ vs) = by-test (λ (x : ℕ). x ≤ suc (length vs)) (elem v us) (λ q. omega (arith, missing-le us vs)) (λ q. omega (arith, missing-le (v ∷ us) vs))
+
+pub length-run : (b n : ℕ) → length (run b n) ≡ n
+length-run b zero = refl
+length-run b (suc n) = ap suc (length-run (suc b) n)
 
 -- ---- a build's outputs are as many as 01 allows
 length-fronts : (qs : List (List ℕ)) → length (fronts qs) ≡ length qs
@@ -121,7 +130,7 @@ module _ (s : State) (t bs : List ℕ) (up down : Cut) (table records : List ℕ
         downs = a .downs;
         low = a .low;
         few = omega (arith, a .few);
-        inside = omega (arith, a .few, c′ .long, d .long);
+        inside = omega (arith, c′ .long, d .room);
       }
 
   module _ (next : ℕ) (ws : List ℤ) (room : length ws < mostFill) (ws₀ : List ℤ) where
@@ -158,7 +167,7 @@ module _ (s : State) (t bs : List ℕ) (up down : Cut) (table records : List ℕ
     room₁ = rw (kept, built-bounds m) (d .ready .asks .inside)
 
     room₂ : 3 * (w₁ .count + missing (values w₁) (valuesOf up ++ valuesOf down)) ≤ length (w₂ .bounds)
-    room₂ = rw (kept, built-bounds m) (let i = d .ready .asks .few in omega (arith, c′ .long, d .long))
+    room₂ = rw (kept, built-bounds m) (omega (arith, c′ .long, d .room))
 
     dry-em : (x : Work Sink) → x ≡ stages bump putBatch putEach (b .count) (take (b .len) (b .outputs)) (valuesOf up) (valuesOf down) w₂
         → x .em ≡ scratch (valuesOf up) (valuesOf down) B t₁ s₀ .em
@@ -277,7 +286,20 @@ module _ (s : State) (t bs : List ℕ) (up down : Cut) (table records : List ℕ
   scratch-tells next ws₀ t₂ records″ ws₂ w e v room q ws l h =
       short-is s t bs up down table records d b t₀ t₁ records′ c at-kept e₁ next ws (omega arith) ws₀ t₂ records″ ws₂ w (rw eo at e) v (rw (sym l) at q)
 
--- the refusals before have found room in a scratch table too
-pub dry-ready : (s : State) (t bs : List ℕ) (up down : Cut) (table records : List ℕ) (n : ℕ) → Ready s t bs up down → 8 * nodesOf (partyOf (s .party)) ≤ n → n ≡ length table → 3072 ≡ length records
-    → Dry s t bs up down table records
-dry-ready s t bs up down table records n r h e l = record { ready = r; builds = buildable (partyOf (s .party)) t table n (r .builds) h e; long = l }
+-- the refusals before have found room in scratch tables too
+module _ (s : State) (t bs : List ℕ) (up down : Cut) (table records : List ℕ) (n : ℕ) (r : Ready s t bs up down) (h : 8 * nodesOf (partyOf (s .party)) ≤ n) (e : n ≡ length table) where
+  pub dry-ready : 3072 ≡ length records → Dry s t bs up down table records
+  dry-ready l = record { ready = r; builds = buildable (partyOf (s .party)) t table n (r .builds) h e; room = omega (arith, r .asks .few) }
+
+  pub dry-few : keptOf (s .party) + (up .n + down .n) ≤ 64 → 192 ≡ length records → Dry s t bs up down table records
+  dry-few k l = record {
+    ready = r;
+    builds = buildable (partyOf (s .party)) t table n (r .builds) h e;
+    room = omega (
+      arith,
+      missing-le (valuesFrom bs 0 (keptOf (s .party))) (valuesOf up ++ valuesOf down),
+      length-append (valuesOf up) (valuesOf down),
+      length-run (up .base) (up .n),
+      length-run (down .base) (down .n),
+    );
+  }

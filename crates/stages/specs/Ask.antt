@@ -90,7 +90,7 @@ pub record Ready (s : State) (t bs : List ℕ) (up down : Cut) : Type 0 where
 pub record Dry (s : State) (t bs : List ℕ) (up down : Cut) (table records : List ℕ) : Type 0 where
   pub ready : Ready s t bs up down
   pub builds : Buildable (partyOf (s .party)) table
-  pub long : 3072 ≡ length records
+  pub room : 3 * (keptOf (s .party) + missing (valuesFrom bs 0 (keptOf (s .party))) (valuesOf up ++ valuesOf down)) ≤ length records
 
 -- nothing is lacking
 pub record Enough (ups downs : List ℕ) (m : Machine) : Type 0 where

@@ -1,6 +1,7 @@
 // Both directions of an encoding: the outputs emitted, then the asked values; on the lent tables, and first on scratch copies with a
 // buffer of no words, where the same code counts what it needs. What is required is what the refusals before have tested.
 ghost use mathlib.Core.Path.{_≡_};
+ghost use mathlib.Core.Bool.{true};
 ghost use mathlib.Core.List.{List, _++_};
 ghost use Prim.Native.Nat.{ℕ, _+_, _*_, _-_, _≤_, _<_};
 ghost use lib.IntN.{ℤ};
@@ -184,6 +185,40 @@ fn record_room() -> [u32; 3072]
     [0; 3072]
 }
 
+fn few_records() -> [u32; 192]
+    ensures { λ r. ⌜ 192 ≡ length r ⌝ }
+{
+    [0; 192]
+}
+
+// Most calls are small ones: a small table, and few records.
+fn short_tiny(
+    state: State,
+    next: u32,
+    nodes: &[u32],
+    bounds: &[u32],
+    space: usize,
+    up: Cut,
+    down: Cut,
+) -> u32
+    requires { ⌜ Ready state (now nodes) (now bounds) up down × (8 * nodesOf (partyOf (state .party)) ≤ 512) × (keptOf (state .party) + (up .n + down .n) ≤ 64) ⌝ }
+    ensures { λ r. ⌜ ((ws : List ℤ) → length ws ≡ space → space < 18446744073709551615 → r ≡ lacking (valuesOf up) (valuesOf down) (machineOf state next (now (nodes .entry)) (now (bounds .entry)) ws)) ⌝ }
+{
+    let mut table = staging::small_room();
+    let mut records = few_records();
+    short_in(
+        state,
+        next,
+        nodes,
+        bounds,
+        space,
+        up,
+        down,
+        &mut table,
+        &mut records,
+    )
+}
+
 fn short_small(
     state: State,
     next: u32,
@@ -265,6 +300,19 @@ fn short_large(
     )
 }
 
+// Whether there are at most 64 records, old ones and asked ones.
+fn few(old: u32, ups: usize, downs: usize) -> bool
+    ensures { λ r. ⌜ (r ≡ true → old + (ups + downs) ≤ 64) ⌝ }
+{
+    if 64 < ups {
+        return false;
+    }
+    if 64 < downs {
+        return false;
+    }
+    old as usize + (ups + downs) <= 64
+}
+
 // What an encoding lacks: n is the number of nodes after the build, at most 4,096, and space the buffer's length.
 pub fn encode_short(
     state: State,
@@ -280,6 +328,9 @@ pub fn encode_short(
     ensures { λ r. ⌜ ((ws : List ℤ) → length ws ≡ space → space < 18446744073709551615 → r ≡ lacking (valuesOf up) (valuesOf down) (machineOf state next (now (nodes .entry)) (now (bounds .entry)) ws)) ⌝ }
 {
     if n <= 64 {
+        if few(kept_bounds(state.party), up.n, down.n) {
+            return short_tiny(state, next, nodes, bounds, space, up, down);
+        }
         return short_small(state, next, nodes, bounds, space, up, down);
     }
     if n <= 1024 {

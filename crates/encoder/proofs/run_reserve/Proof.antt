@@ -1,9 +1,7 @@
 -- `run_reserve` is the model's reserve: each refusal in its place, then the run. Assumes nothing.
 use mathlib.Core.Path.{_≡_, refl, sym, _∙_}
 use mathlib.Core.Bool.{false}
-use Prim.Native.Nat.{ℕ}
 use native.Mathlib.Omega.{arith}
-use borrow.Author.Needs.{length-unmapped}
 use borrow.Author.Tests.{ltb-false}
 use lib.ListN.{length}
 use Rattle.model.specs.Machine.{Machine}
@@ -14,6 +12,12 @@ use Rattle.encoder.proofs.Reserves.{reserve-damaged, reserve-wide, rese
 use borrow.Author.Needs.{needs}
 use Rattle.encoder.proofs.run_reserve.Statement.{statement}
 use Rattle.encoder.proofs.run_reserve.Tie as tie
+
+wide : (s : tie.Start) → length (s .args .state .party .weights) ≡ 128
+wide s = search needs
+
+long : (s : tie.Start) → length (s .args .state .party .words) ≡ 128
+long s = search needs
 
 all-damaged-requires : tie.Need-all-damaged-requires
 all-damaged-requires c κs = search needs
@@ -40,8 +44,8 @@ returns-2 c =
     let s = c .before .before .before .before .before .before .before .before .before .before .before in
     let m : Machine = machineOf (s .args .state) (s .args .next) (s .args .nodes .now) (s .args .bounds .now) (s .args .clauses .now) in
     let d : allDamaged m ≡ false = sym (c .before .before .before .before .before .before .before .all-damaged .ensures) ∙ c .before .before .before .before .before .before .if1 .left in
-    let w : length (s .args .state .party .weights) ≡ 128 = length-unmapped ℕ (s .args .state .party .weights) 128 (s .good .0 .1 .1 .0 .1 .1 .1 .0 .1 .0 .1) in
-    let x : length (s .args .state .party .words) ≡ 128 = length-unmapped ℕ (s .args .state .party .words) 128 (s .good .0 .1 .1 .0 .1 .1 .1 .1 .0 .1 .0 .1) in
+    let w : length (s .args .state .party .weights) ≡ 128 = wide s in
+    let x : length (s .args .state .party .words) ≡ 128 = long s in
     let n : Needed m (c .before .before .needs-after .result) = needed (s .args .state .party) m refl w x (sound m d) _ (c .before .before .needs-after .ensures) in
     reserve-wide m d (wide-yes m _ n (c .if2 .taken))
 
@@ -59,8 +63,8 @@ returns-3 c =
     let s = c .before .before .before .before .before .before .before .before .before .before .before .before .before .before in
     let m : Machine = machineOf (s .args .state) (s .args .next) (s .args .nodes .now) (s .args .bounds .now) (s .args .clauses .now) in
     let d : allDamaged m ≡ false = sym (c .before .before .before .before .before .before .before .before .before .before .all-damaged .ensures) ∙ c .before .before .before .before .before .before .before .before .before .if1 .left in
-    let w : length (s .args .state .party .weights) ≡ 128 = length-unmapped ℕ (s .args .state .party .weights) 128 (s .good .0 .1 .1 .0 .1 .1 .1 .0 .1 .0 .1) in
-    let x : length (s .args .state .party .words) ≡ 128 = length-unmapped ℕ (s .args .state .party .words) 128 (s .good .0 .1 .1 .0 .1 .1 .1 .1 .0 .1 .0 .1) in
+    let w : length (s .args .state .party .weights) ≡ 128 = wide s in
+    let x : length (s .args .state .party .words) ≡ 128 = long s in
     let n : Needed m (c .before .before .before .before .before .needs-after .result) = needed (s .args .state .party) m refl w x (sound m d) _ (c .before .before .before .before .before .needs-after .ensures) in
     reserve-nodes m d (wide-no m _ n (c .before .before .before .if2 .left)) (nodes-yes m _ n _ (c .before .before .node-room .ensures) (c .if3 .taken))
 
@@ -69,8 +73,8 @@ reserve-short-requires c κs =
     let s = c .before .before .before .before .before .before .before .before .before .before .before .before .before .before .before in
     let m : Machine = machineOf (s .args .state) (s .args .next) (s .args .nodes .now) (s .args .bounds .now) (s .args .clauses .now) in
     let d : allDamaged m ≡ false = sym (c .before .before .before .before .before .before .before .before .before .before .before .all-damaged .ensures) ∙ c .before .before .before .before .before .before .before .before .before .before .if1 .left in
-    let w : length (s .args .state .party .weights) ≡ 128 = length-unmapped ℕ (s .args .state .party .weights) 128 (s .good .0 .1 .1 .0 .1 .1 .1 .0 .1 .0 .1) in
-    let x : length (s .args .state .party .words) ≡ 128 = length-unmapped ℕ (s .args .state .party .words) 128 (s .good .0 .1 .1 .0 .1 .1 .1 .1 .0 .1 .0 .1) in
+    let w : length (s .args .state .party .weights) ≡ 128 = wide s in
+    let x : length (s .args .state .party .words) ≡ 128 = long s in
     let n : Needed m (c .before .before .before .before .before .before .needs-after .result) = needed (s .args .state .party) m refl w x (sound m d) _ (c .before .before .before .before .before .before .needs-after .ensures) in
     (can-build m _ n _ (c .before .before .before .node-room .ensures) (c .before .if3 .left) (sound m d), n .many, few-nodes m _ n _ (c .before .before .before .node-room .ensures) (c .before .if3 .left))
 
@@ -82,8 +86,8 @@ returns-4 c =
     let s = c .before .before .before .before .before .before .before .before .before .before .before .before .before .before .before .before .before in
     let m : Machine = machineOf (s .args .state) (s .args .next) (s .args .nodes .now) (s .args .bounds .now) (s .args .clauses .now) in
     let d : allDamaged m ≡ false = sym (c .before .before .before .before .before .before .before .before .before .before .before .before .before .all-damaged .ensures) ∙ c .before .before .before .before .before .before .before .before .before .before .before .before .if1 .left in
-    let w : length (s .args .state .party .weights) ≡ 128 = length-unmapped ℕ (s .args .state .party .weights) 128 (s .good .0 .1 .1 .0 .1 .1 .1 .0 .1 .0 .1) in
-    let x : length (s .args .state .party .words) ≡ 128 = length-unmapped ℕ (s .args .state .party .words) 128 (s .good .0 .1 .1 .0 .1 .1 .1 .1 .0 .1 .0 .1) in
+    let w : length (s .args .state .party .weights) ≡ 128 = wide s in
+    let x : length (s .args .state .party .words) ≡ 128 = long s in
     let n : Needed m (c .before .before .before .before .before .before .before .before .needs-after .result) = needed (s .args .state .party) m refl w x (sound m d) _ (c .before .before .before .before .before .before .before .before .needs-after .ensures) in
     reserve-numbers m d (wide-no m _ n (c .before .before .before .before .before .before .if2 .left)) (nodes-no m _ n _ (c .before .before .before .before .before .node-room .ensures) (c .before .before .before .if3 .left)) (sym (c .before .reserve-short .ensures _ _) ∙ c .if4 .taken)
 
@@ -95,8 +99,8 @@ reserve-on-requires c κs =
     let s = c .before .before .before .before .before .before .before .before .before .before .before .before .before .before .before .before .before .before .before in
     let m : Machine = machineOf (s .args .state) (s .args .next) (s .args .nodes .now) (s .args .bounds .now) (s .args .clauses .now) in
     let d : allDamaged m ≡ false = sym (c .before .before .before .before .before .before .before .before .before .before .before .before .before .before .before .all-damaged .ensures) ∙ c .before .before .before .before .before .before .before .before .before .before .before .before .before .before .if1 .left in
-    let w : length (s .args .state .party .weights) ≡ 128 = length-unmapped ℕ (s .args .state .party .weights) 128 (s .good .0 .1 .1 .0 .1 .1 .1 .0 .1 .0 .1) in
-    let x : length (s .args .state .party .words) ≡ 128 = length-unmapped ℕ (s .args .state .party .words) 128 (s .good .0 .1 .1 .0 .1 .1 .1 .1 .0 .1 .0 .1) in
+    let w : length (s .args .state .party .weights) ≡ 128 = wide s in
+    let x : length (s .args .state .party .words) ≡ 128 = long s in
     let n : Needed m (c .before .before .before .before .before .before .before .before .before .before .needs-after .result) = needed (s .args .state .party) m refl w x (sound m d) _ (c .before .before .before .before .before .before .before .before .before .before .needs-after .ensures) in
     let z = sound m d in
     (can-build m _ n _ (c .before .before .before .before .before .before .before .node-room .ensures) (c .before .before .before .before .before .if3 .left) z, c .before .total .ensures, omega (arith, z .total, c .before .total .ensures), z .drawn, λ bs ws. ltb-false _ _ (sym (c .before .before .before .reserve-short .ensures bs ws) ∙ c .before .before .if4 .left))
@@ -109,8 +113,8 @@ returns-5 c =
     let s = c .before .before .before .before .before .before .before .before .before .before .before .before .before .before .before .before .before .before .before .before .before .before .before in
     let m : Machine = machineOf (s .args .state) (s .args .next) (s .args .nodes .now) (s .args .bounds .now) (s .args .clauses .now) in
     let d : allDamaged m ≡ false = sym (c .before .before .before .before .before .before .before .before .before .before .before .before .before .before .before .before .before .before .before .all-damaged .ensures) ∙ c .before .before .before .before .before .before .before .before .before .before .before .before .before .before .before .before .before .before .if1 .left in
-    let w : length (s .args .state .party .weights) ≡ 128 = length-unmapped ℕ (s .args .state .party .weights) 128 (s .good .0 .1 .1 .0 .1 .1 .1 .0 .1 .0 .1) in
-    let x : length (s .args .state .party .words) ≡ 128 = length-unmapped ℕ (s .args .state .party .words) 128 (s .good .0 .1 .1 .0 .1 .1 .1 .1 .0 .1 .0 .1) in
+    let w : length (s .args .state .party .weights) ≡ 128 = wide s in
+    let x : length (s .args .state .party .words) ≡ 128 = long s in
     let n : Needed m (c .before .before .before .before .before .before .before .before .before .before .before .before .before .before .needs-after .result) = needed (s .args .state .party) m refl w x (sound m d) _ (c .before .before .before .before .before .before .before .before .before .before .before .before .before .before .needs-after .ensures) in
     reserve-done m d (wide-no m _ n (c .before .before .before .before .before .before .before .before .before .before .before .before .if2 .left)) (nodes-no m _ n _ (c .before .before .before .before .before .before .before .before .before .before .before .node-room .ensures) (c .before .before .before .before .before .before .before .before .before .if3 .left)) (sym (c .before .before .before .before .before .before .before .reserve-short .ensures _ _) ∙ c .before .before .before .before .before .before .if4 .left) _ (c .before .before .before .reserve-on .ensures _ _)
 

@@ -17,29 +17,30 @@ returns-2 c = λ next t ws. many-downs _ next t _ ws (c .before .before .before 
 kept-bounds-requires : tie.Need-kept-bounds-requires
 kept-bounds-requires c κs = search needs
 
-index-of-requires : tie.Need-index-of-requires
-index-of-requires c κs = (kept-inside _ _ _ _ _ (c .before .before .before .before .before .before .before .pre) (c .kept-bounds .ensures), omega (arith, c .before .before .before .before .before .bound-room .ensures))
-
-index-of-requires-2 : tie.Need-index-of-requires-2
-index-of-requires-2 c κs = (kept-inside _ _ _ _ _ (c .before .before .before .before .before .before .before .before .pre) (c .before .kept-bounds .ensures), omega (arith, c .before .before .before .before .before .before .bound-room .ensures))
-
-missing-of-requires : tie.Need-missing-of-requires
-missing-of-requires c κs = search needs
-
 cast-result : tie.Need-cast-result
 cast-result c = search needs
 
+without-record-requires : tie.Need-without-record-requires
+without-record-requires c κs =
+    let s = c .before .before .before .before .before .before .before in
+    record {
+      inside = kept-inside _ _ _ _ _ (s .pre) (c .kept-bounds .ensures);
+      ups = omega (arith, c .before .before .before .before .before .bound-room .ensures, c .before .before .before .if1 .left);
+      first = s .pre .first;
+      downs = omega (arith, c .before .before .before .before .before .bound-room .ensures, c .before .if2 .left);
+      low = s .pre .low;
+    }
+
 add-result : tie.Need-add-result
 add-result c =
-    let s = c .before .before .before .before .before .before .before .before .before .before .before .before in
-    let k = few-missing _ (s .args .up) (s .args .down) _ (c .missing-of .ensures (s .args .bounds .now) (c .before .before .before .before .before .kept-bounds .result) (c .before .before .before .before .index-of .ensures) (c .before .before .before .index-of2 .ensures)) in
-    record { fits = omega (arith, k, c .before .before .before .before .before .before .before .before .before .before .bound-room .ensures, kept-few _ (c .before .before .before .before .before .kept-bounds .result) (s .pre .bounds) (c .before .before .before .before .before .kept-bounds .ensures)) }
+    let s = c .before .before .before .before .before .before .before .before in
+    let k = few-missing _ (s .args .up) (s .args .down) _ (c .without-record .ensures) in
+    record { fits = omega (arith, k, c .before .before .before .before .before .before .bound-room .ensures, kept-few _ (c .before .kept-bounds .result) (s .pre .bounds) (c .before .kept-bounds .ensures)) }
 
 returns-3 : tie.Need-returns-3
 returns-3 c =
-    let s = c .before .before .before .before .before .before .before .before .before .before .before .before in
-    λ next t ws. many-counted (s .args .state) next t _ ws (s .args .up) (s .args .down) (s .pre .weights) (s .pre .words) _ _ _ (c .before .before .before .before .before .before .before .before .before .before .bound-room .ensures) (c .before .before .before .before .before .kept-bounds .ensures)
-    (c .missing-of .ensures (s .args .bounds .now) (c .before .before .before .before .before .kept-bounds .result) (c .before .before .before .before .index-of .ensures) (c .before .before .before .index-of2 .ensures))
+    let s = c .before .before .before .before .before .before .before .before in
+    λ next t ws. many-counted (s .args .state) next t _ ws (s .args .up) (s .args .down) (s .pre .weights) (s .pre .words) _ _ _ (c .before .before .before .before .before .before .bound-room .ensures) (c .before .kept-bounds .ensures) (c .without-record .ensures)
 
 pub too-many-spec : {M : Type 1} → statement M
 too-many-spec =
@@ -49,9 +50,7 @@ too-many-spec =
     returns
     returns-2
     kept-bounds-requires
-    index-of-requires
-    index-of-requires-2
-    missing-of-requires
     cast-result
+    without-record-requires
     add-result
     returns-3)
