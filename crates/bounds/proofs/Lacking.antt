@@ -7,7 +7,7 @@ use Prim.Native.Nat.{ℕ, zero, suc, _+_, _-_, _≤_, _<_}
 use native.Mathlib.Omega.{arith}
 use borrow.Author.Tests.{eq-eqb, ne-eqb, eqb-true, eqb-false}
 use lib.Dec.{eqb, ltb}
-use lib.ListN.{length, getD}
+use lib.ListN.{getD}
 use Rattle.model.specs.Machine.{find}
 use Rattle.model.specs.Bounds.{run, valuesFrom, elem, missing}
 use Rattle.model.proofs.Bounding.{found, learn, missing-append}
@@ -61,46 +61,6 @@ missing-first ks b n = go (elem b ks)
     go : (q : Bool) → cond q (missing ks (run (suc b) n)) (suc (missing (b ∷ ks) (run (suc b) n))) ≡ lack q + missing ks (run (suc b) n)
     go true = omega arith
     go false = omega (arith, missing-later ks b n)
-
--- to know one value more takes one away at most
-missing-less : (u : ℕ) (ks vs : List ℕ) → missing ks vs ≤ suc (missing (u ∷ ks) vs)
-missing-less u ks [] = omega arith
-missing-less u ks (v ∷ vs) = go (elem v ks) (eqb u v) refl (missing-less u ks vs) (missing-less u (v ∷ ks) vs)
-  where
-    turned : missing (u ∷ v ∷ ks) vs ≡ missing (v ∷ u ∷ ks) vs
-    turned = missing-agree (u ∷ v ∷ ks) (v ∷ u ∷ ks) vs (λ x e. swap (eqb u x) (eqb v x) (elem x ks))
-      where
-        swap : (a b c : Bool) → (a || (b || c)) ≡ (b || (a || c))
-        swap true true c = refl
-        swap true false c = refl
-        swap false b c = refl
-
-    go : (q p : Bool) → eqb u v ≡ p → missing ks vs ≤ suc (missing (u ∷ ks) vs) → missing (v ∷ ks) vs ≤ suc (missing (u ∷ v ∷ ks) vs)
-        → cond q (missing ks vs) (suc (missing (v ∷ ks) vs)) ≤ suc (cond (p || q) (missing (u ∷ ks) vs) (suc (missing (v ∷ u ∷ ks) vs)))
-    go true true e h k = h
-    go true false e h k = h
-    go false true e h k = omega (arith, ap (λ (x : ℕ). missing (x ∷ ks) vs) (eqb-true u v e))
-    go false false e h k = omega (arith, turned)
-
--- what the down values lack by themselves is no more than what all lack
-pub missing-part : (ks us vs : List ℕ) → missing ks vs ≤ missing ks (us ++ vs)
-missing-part ks [] vs = omega arith
-missing-part ks (u ∷ us) vs = go (elem u ks) (missing-part ks us vs) (missing-part (u ∷ ks) us vs)
-  where
-    go : (q : Bool) → missing ks vs ≤ missing ks (us ++ vs) → missing (u ∷ ks) vs ≤ missing (u ∷ ks) (us ++ vs)
-        → missing ks vs ≤ cond q (missing ks (us ++ vs)) (suc (missing (u ∷ ks) (us ++ vs)))
-    go true h k = h
-    go false h k = omega (arith, missing-less u ks vs)
-
--- a run has no more values than there are records after it is asked for: so one of over 1,024 values is refused
-run-records : (ks : List ℕ) (b n : ℕ) → n ≤ length ks + missing ks (run b n)
-run-records [] b zero = omega arith
-run-records [] b (suc n) = omega (arith, missing-first [] b n, run-records [] (suc b) n)
-run-records (u ∷ ks) b n = omega (arith, run-records ks b n, missing-less u ks (run b n))
-
-pub both-records : (ks : List ℕ) (b n b′ n′ : ℕ) → (n ≤ length ks + missing ks (run b n ++ run b′ n′)) × (n′ ≤ length ks + missing ks (run b n ++ run b′ n′))
-both-records ks b n b′ n′ =
-    (omega (arith, run-records ks b n, missing-append ks (run b n) (run b′ n′)), omega (arith, run-records ks b′ n′, missing-part ks (run b n) (run b′ n′)))
 
 -- an index says which values have a record
 pub known-not : (t : List ℕ) (count v : ℕ) → placed t count v ≡ 0 → elem v (valuesFrom t 0 count) ≡ false

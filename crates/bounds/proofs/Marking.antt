@@ -1,8 +1,8 @@
 -- A value's record is found or appended, and marked: the model's step, whatever becomes of the clauses. Assumes nothing.
 use mathlib.Core.Path.{_≡_, refl, sym, ap, _∙_}
 use mathlib.Core.Bool.{Bool, true, false, cond}
-use mathlib.Core.List.{List, [], _∷_}
-use Prim.Native.Nat.{ℕ, zero, suc, _+_, _*_, _-_, _/_, _%_, _^_, _≤_, _<_}
+use mathlib.Core.List.{List, []}
+use Prim.Native.Nat.{ℕ, suc, _+_, _*_, _-_, _/_, _%_, _^_, _≤_, _<_}
 use native.Mathlib.Omega.{arith}
 use borrow.Author.Tests.{lt-ltb, le-ltb, eq-eqb, ne-eqb, ltb-true, ltb-false, eqb-false}
 use lib.Dec.{eqb, ltb}
@@ -13,11 +13,12 @@ use Rattle.model.specs.Logic.{Lit, pL}
 use Rattle.model.specs.Words.{Sink, putEach}
 use Rattle.model.specs.Signs.{Dir, iff, onlyif}
 use Rattle.model.specs.Nodes.{bitAt, bump}
-use Rattle.model.specs.Compare.{Outs, outLit, outLits, comparator}
+use Rattle.model.specs.Compare.{Outs, outLits, comparator}
 use Rattle.model.specs.Machine.{recordAt, markedIn, dirPlace, find}
 use Rattle.model.specs.Bounds.{Work, recorded, compared}
 use Rattle.model.proofs.Bounding.{behind, find-new}
 use Rattle.comparators.specs.Codes.{pairsOf}
+use Rattle.comparators.proofs.Codings.{outs-long, outs-take}
 use Rattle.bounds.specs.Index.{dirOf, placed, work, sink, Placed, Claims, Steps}
 use Rattle.bounds.specs.declared.Claim.{Claim}
 
@@ -166,16 +167,6 @@ module _ (δ : Dir) (v : ℕ) (t : List ℕ) (count next place : ℕ) (at : Plac
       }
 
 -- ---- the comparator of the record
-pub outs-take : (nodes os : List ℕ) (n : ℕ) → take n (outLits nodes os) ≡ outLits nodes (take n os)
-outs-take nodes [] zero = refl
-outs-take nodes [] (suc n) = refl
-outs-take nodes (o ∷ os) zero = refl
-outs-take nodes (o ∷ os) (suc n) = ap (λ (x : Outs). outLit nodes o ∷ x) (outs-take nodes os n)
-
-pub outs-length : (nodes os : List ℕ) → length (outLits nodes os) ≡ length os
-outs-length nodes [] = refl
-outs-length nodes (o ∷ os) = ap suc (outs-length nodes os)
-
 module _ (δ : Dir) (v : ℕ) (pairs : List ℤ) (len : ℕ) (t : List ℕ) (count next : ℕ) (ws : List ℤ) (f n : ℕ) (t′ : List ℕ) (r : Claim) (claims : Claims δ v t count next t′ r) where
   pub steps-done : r .done ≡ true → Steps δ v pairs len t count next ws f n t′ ws (record { next = r .next; fill = f; clauses = n; count = r .count })
   steps-done d = record { book = claims .book; puts = λ nodes os e h. rw d at (claims .puts nodes (take len os) (sink ws f n)) }
@@ -187,6 +178,6 @@ module _ (δ : Dir) (v : ℕ) (pairs : List ℤ) (len : ℕ) (t : List ℕ) (cou
     book = claims .book;
     puts = λ nodes os e h.
         let p : sink ws′ f′ n′ ≡ putEach (comparator δ (outLits nodes (take len os)) v (pL (r .own))) (sink ws f n)
-        = puts (outLits nodes os) e (rw (outs-length nodes os) h) ∙ rw (outs-take nodes os len) in
+        = puts (outLits nodes os) e (rw (outs-long nodes os) h) ∙ rw (outs-take nodes os len) in
         ap (λ (x : Sink). work nodes t′ (r .count) (r .next) x) p ∙ rw d at (claims .puts nodes (take len os) (sink ws f n));
   }

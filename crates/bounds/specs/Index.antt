@@ -1,17 +1,17 @@
 -- The index of asked values, the state of an encoding over lent words, and one value's step. Assumes nothing: these are definitions.
 use mathlib.Core.Path.{_≡_}
-use mathlib.Core.Bool.{Bool, false, cond}
+use mathlib.Core.Bool.{cond}
 use mathlib.Core.List.{List, []}
-use Prim.Native.Nat.{ℕ, zero, suc, _+_, _*_, _≤_, _<_}
+use Prim.Native.Nat.{ℕ, suc, _+_, _*_, _≤_, _<_}
 use lib.Dec.{eqb, ltb}
 use lib.IntN.{ℤ}
 use lib.ListN.{length, getD, take}
 use Rattle.model.specs.Logic.{Lit, pL}
-use Rattle.model.specs.Words.{flat, buffer, Sink, putEach}
+use Rattle.model.specs.Words.{buffer, Sink, putEach}
 use Rattle.model.specs.Signs.{Dir, iff, onlyif}
 use Rattle.model.specs.Nodes.{bump}
-use Rattle.model.specs.Compare.{Outs, outLits, comparator}
-use Rattle.model.specs.Machine.{recordAt, markedIn, find}
+use Rattle.model.specs.Compare.{outLits, comparator}
+use Rattle.model.specs.Machine.{find}
 use Rattle.model.specs.Bounds.{valuesFrom, run, missing, Work, recorded, compared}
 use Rattle.comparators.specs.Codes.{pairsOf}
 use Rattle.bounds.specs.declared.Claim.{Claim}
@@ -28,15 +28,6 @@ placed t n v = cond (ltb (find t n v) n) (suc (find t n v)) 0
 -- the same for each of the n values from base up
 pub record Indexed (t : List ℕ) (count base n : ℕ) (index : List ℕ) : Type 0 where
   pub here : (k : ℕ) → k < n → getD index k 0 ≡ placed t count (base + k)
-
--- whether the record at a place less 1 has a direction's mark; place 0 is no record
-unfoldable pub standing : Dir → List ℕ → ℕ → Bool
-standing δ t zero = false
-standing δ t (suc i) = markedIn δ (recordAt t i)
-
--- the words of a value's comparator, at any bound literal; none where its record is marked
-unfoldable pub taken : Dir → List ℕ → ℕ → Outs → ℕ → ℕ
-taken δ t place os v = cond (standing δ t place) 0 (length (flat (comparator δ os v (pL 0))))
 
 -- an encoding's state: the node table, the records, the buffer and the numbers
 abbrev pub work : {S : Type 0} → List ℕ → List ℕ → ℕ → ℕ → S → Work S

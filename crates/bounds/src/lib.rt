@@ -1,17 +1,17 @@
-// The bound records of an encoding: which values have one, how many are missing, how many words their comparators take, and the steps that
-// mark them and write the comparators. The asked values are n from base up; an index of them is made once, so no value is searched for.
+// The bound records of an encoding: which values have one, how many are missing, and the steps that mark them and write the comparators.
+// The asked values are n from base up; an index of them is made once, so no value is searched for.
 ghost use mathlib.Core.Path.{_≡_};
-ghost use mathlib.Core.List.{List, [], _++_};
+ghost use mathlib.Core.List.{List, _++_};
 ghost use Prim.Native.Nat.{ℕ, _+_, _*_, _^_, _≤_, _<_};
 ghost use lib.ListN.{length, replicate, take};
 ghost use Rattle.model.specs.Logic.{pL};
-ghost use Rattle.model.specs.Words.{flat, raised, putEach};
+ghost use Rattle.model.specs.Words.{putEach};
 ghost use Rattle.model.specs.Nodes.{bitAt, bump};
 ghost use Rattle.model.specs.Compare.{Outs, outLits, comparator};
 ghost use Rattle.model.specs.Machine.{dirPlace};
-ghost use Rattle.model.specs.Bounds.{run, valuesFrom, missing, boundAll, plus1, follow};
-ghost use Rattle.comparators.specs.Codes.{codesOf, pairsOf};
-ghost use Rattle.bounds.specs.Index.{dirOf, taken, Indexed, Asked, work, sink, Placed, Claims, Steps};
+ghost use Rattle.model.specs.Bounds.{run, valuesFrom, missing, boundAll};
+ghost use Rattle.comparators.specs.Codes.{pairsOf};
+ghost use Rattle.bounds.specs.Index.{dirOf, Indexed, Asked, work, sink, Placed, Claims, Steps};
 use comparators::Filled;
 
 // The numbers after values are asked for: the next variable, the fill and the count of clauses, and how many records there are.
@@ -117,61 +117,6 @@ fn has_mark(dir: u32, marks: u32) -> bool
         return marks % 2 == 1;
     }
     marks / 2 % 2 == 1
-}
-
-// The words of a value's comparator.
-fn need_words(dir: u32, codes: &[u32; 48], len: usize, v: u64) -> usize
-    requires { ⌜ len ≤ 48 ⌝ }
-    ensures { λ r. ⌜ ((os : Outs) → now (codes .entry) ≡ codesOf os → len ≤ length os → r ≡ length (flat (comparator (dirOf dir) (take len os) v (pL 0)))) ⌝ }
-{
-    if dir == 0 {
-        let s = comparators::need_if(codes, len, v);
-        return s.words;
-    }
-    let s = comparators::need_only_if(codes, len, v);
-    s.words
-}
-
-// The same, but 0 where the value's record is marked.
-fn words_one(dir: u32, table: &[u32], place: u32, codes: &[u32; 48], len: usize, v: u64) -> usize
-    requires { ⌜ (len ≤ 48) × (3 * place ≤ length (now table)) × (place ≤ 1024) ⌝ }
-    ensures { λ r. ⌜ ((os : Outs) → now (codes .entry) ≡ codesOf os → len ≤ length os → r ≡ taken (dirOf dir) (now (table .entry)) place (take len os) v) ⌝ }
-{
-    if place == 0 {
-        return need_words(dir, codes, len, v);
-    }
-    let old = table[3 * (place as usize - 1) + 2];
-    if has_mark(dir, old) {
-        return 0;
-    }
-    need_words(dir, codes, len, v)
-}
-
-// The fill after the comparators of the asked values whose records are not marked, or that have none. Here and below, too many outputs and
-// too many records are refused before.
-pub fn words_needed(
-    dir: u32,
-    table: &[u32],
-    count: u32,
-    index: &[u32; 1024],
-    codes: &[u32; 48],
-    len: usize,
-    base: u64,
-    n: usize,
-    fill: usize,
-) -> usize
-    requires { ⌜ Asked (now table) count base n len (now index) ⌝ }
-    ensures { λ r. ⌜ ((nodes os : List ℕ) (next : ℕ) → now (codes .entry) ≡ codesOf (outLits nodes os) → len ≤ length os → r ≡ raised fill (length (flat (boundAll plus1 follow (dirOf dir) (take len os) (run base n) (work nodes (now (table .entry)) count next []) .em .sink)))) ⌝ }
-{
-    let mut at = fill;
-    let mut k: usize = 0;
-    while k < n {
-        let place = index[k];
-        let w = words_one(dir, table, place, codes, len, base + k as u64);
-        at = clauses::raised(at, w);
-        k += 1;
-    }
-    at
 }
 
 // A new record behind the others, marked at once.

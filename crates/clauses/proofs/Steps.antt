@@ -2,14 +2,14 @@
 use mathlib.Core.Path.{_≡_, refl, sym, ap, ap₂, _∙_, subst}
 use mathlib.Core.Bool.{Bool, true, false, not, cond, _&&_, _||_}
 use mathlib.Core.List.{List, [], _∷_, _++_}
-use Prim.Native.Nat.{ℕ, zero, suc, _+_, _-_, _≤_, _<_, min}
+use Prim.Native.Nat.{ℕ, zero, suc, _+_, _-_, _≤_, _<_}
 use native.Mathlib.Numerals.{add-one}
 use native.Mathlib.Omega.{arith}
 use borrow.Author.Tests.{le-leb, lt-leb, leb-true, leb-false, ltb-true}
 use lib.Dec.{T, leb}
 use lib.IntN.{ℤ, pos, negsuc, natAbs}
-use lib.ListN.{length, set, drop, getD, drop-of-length-le, length-set, length-append, length-map, List·getD-eq-default}
-use lib.Seq.{sets, drop-cons, length-sets}
+use lib.ListN.{length, set, drop, getD, drop-of-length-le, length-append, length-map, List·getD-eq-default}
+use lib.Seq.{sets, drop-cons}
 use lib.Signed.{ltZ}
 use mir.Syntax.{w32}
 use mir.Val.{SFits, toZ, ofZ}
@@ -17,7 +17,7 @@ use Rattle.literal.proofs.Signed.{back, variable-abs}
 use Rattle.model.proofs.Buffer.{sets-append}
 use Rattle.model.specs.Limits.{mostFill}
 use Rattle.model.specs.Logic.{variable, litTrue}
-use Rattle.model.specs.Words.{litOf, Buffer, buffer, raised, lay, wordsTrue, chosen}
+use Rattle.model.specs.Words.{litOf, buffer, raised, lay, wordsTrue, chosen}
 use Rattle.clauses.specs.Parts.{turnedWord, turned}
 use Rattle.clauses.specs.Reading.{endsFalse, seenAfter}
 
@@ -67,6 +67,21 @@ store-step n part l l₀ a i w h e inv =
 pub store-end : (n : Bool) (part l l₀ : List ℤ) (a i : ℕ) → length part ≤ i → sets l (a + i) (turned n (drop i part)) ≡ l₀ → l ≡ l₀
 unfolding turned
 store-end n part l l₀ a i h inv = rw (drop-of-length-le part h) at inv
+
+pub turned-plain : (ws : List ℤ) → turned false ws ≡ ws
+unfolding turned turnedWord
+turned-plain [] = refl
+turned-plain (w ∷ ws) = ap (λ (vs : List ℤ). w ∷ vs) (turned-plain ws)
+
+-- a word stored, and words stored behind it
+module _ (l : List ℤ) (i : ℕ) {v w : ℤ} (e : v ≡ w) where
+  pub two-stored : {u z : ℤ} → u ≡ z → set (set (set l i v) (i + 1) u) (i + 2) (pos 0) ≡ sets l i (w ∷ z ∷ pos 0 ∷ [])
+  two-stored p =
+      let k : i + 2 ≡ suc (suc i) = omega arith in
+      rw (e, p, add-one i, k)
+
+  pub first-stored : {us ws l′ : List ℤ} → us ≡ ws → l′ ≡ sets (set l i v) (i + 1) us → l′ ≡ sets l i (w ∷ ws)
+  first-stored p h = h ∙ rw (e, p, add-one i)
 
 -- a clause of two parts, and its 0
 module _ (m n : Bool) (xs ys : List ℤ) where

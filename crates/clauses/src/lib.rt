@@ -1,6 +1,6 @@
 // The clause writer over a lent buffer, and the evaluator. A buffer's words are clauses, each its literals and then 0; the fill, the
 // place of the next word, is the caller's. What is written is a batch: one that fits whole is stored, one that does not stores nothing,
-// and the fill is raised all the same, so that the same code counts a need on an empty buffer.
+// and the fill is raised all the same, so that the same code counts a need on an empty buffer. No other crate stores a buffer's words.
 ghost use mathlib.Core.Path.{_≡_};
 ghost use mathlib.Core.Bool.{false};
 ghost use mathlib.Core.List.{[], _∷_, _++_};
@@ -50,8 +50,34 @@ fn store(buf: &mut [i32], at: usize, part: &[i32], negate: bool)
     }
 }
 
+// A clause of two literals with its 0, and one of a literal more: here too the room is tested by the caller, once for the batch.
+pub fn store_two(buf: &mut [i32], at: usize, x: i32, y: i32)
+    requires { ⌜ at + 3 ≤ length (now buf) ⌝ }
+    ensures { λ _. ⌜ now (buf .exit) ≡ sets (now (buf .entry)) at (x ∷ y ∷ pos 0 ∷ []) ⌝ }
+{
+    buf[at] = x;
+    buf[at + 1] = y;
+    buf[at + 2] = 0;
+}
+
+pub fn store_three(buf: &mut [i32], at: usize, x: i32, y: i32, z: i32)
+    requires { ⌜ at + 4 ≤ length (now buf) ⌝ }
+    ensures { λ _. ⌜ now (buf .exit) ≡ sets (now (buf .entry)) at (x ∷ y ∷ z ∷ pos 0 ∷ []) ⌝ }
+{
+    buf[at] = x;
+    store_two(buf, at + 1, y, z);
+}
+
+pub fn store_four(buf: &mut [i32], at: usize, x: i32, y: i32, z: i32, w: i32)
+    requires { ⌜ at + 5 ≤ length (now buf) ⌝ }
+    ensures { λ _. ⌜ now (buf .exit) ≡ sets (now (buf .entry)) at (x ∷ y ∷ z ∷ w ∷ pos 0 ∷ []) ⌝ }
+{
+    buf[at] = x;
+    store_three(buf, at + 1, y, z, w);
+}
+
 // Whether n words fit from the fill on.
-pub fn has_room(len: usize, fill: usize, n: usize) -> bool
+fn has_room(len: usize, fill: usize, n: usize) -> bool
     ensures { λ r. ⌜ r ≡ leb (fill + n) len ⌝ }
 {
     if len < fill {
@@ -91,6 +117,19 @@ pub fn put_clause(
         store(buf, fill, p, negate_p);
         store(buf, mid, q, negate_q);
         buf[end] = 0;
+        return raised(fill, n);
+    }
+    raised(fill, n)
+}
+
+// A clause: its first word and a tail that ends in its 0.
+pub fn put_tail(buf: &mut [i32], first: i32, tail: &[i32], fill: usize) -> usize
+    ensures { λ r. ⌜ buffer r (now (buf .exit)) ≡ lay (first ∷ now (tail .entry)) (buffer fill (now (buf .entry))) ⌝ }
+{
+    let n = tail.len() + 1;
+    if has_room(buf.len(), fill, n) {
+        buf[fill] = first;
+        store(buf, fill + 1, tail, false);
         return raised(fill, n);
     }
     raised(fill, n)

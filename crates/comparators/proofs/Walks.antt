@@ -11,7 +11,7 @@ use borrow.Author.Tests.{ne-eqb, eqb-true, eqb-false, lt-ltb, le-ltb}
 use lib.Dec.{eqb, ltb}
 use lib.IntN.{ℤ, pos, negsuc, negℤ}
 use lib.ListN.{length, getD, set, take, drop, length-set, length-append, length-drop, drop-of-length-le}
-use lib.Seq.{sets, drop-cons, take-suc-set, take-set-le, take-all}
+use lib.Seq.{drop-cons, take-suc-set, take-set-le, take-all}
 use mir.Syntax.{w32}
 use mir.Val.{SFits, ofZ}
 use Rattle.model.specs.Logic.{Lit, pL, nL, neg}
@@ -20,16 +20,6 @@ use Rattle.model.specs.Signs.{Dir, iff, onlyif}
 use Rattle.model.specs.Compare.{Outs, ahead, above, higher, begins, clauseOf, compareRows, comparator}
 use Rattle.comparators.specs.Codes.{absent, pairWord}
 use Rattle.comparators.specs.Rows.{wants, onlyFrom, Paired, tailOf, layTails, Below, opening, Rowed}
-
--- ---- copying
-pub copy-step : (tail l l₀ : List ℤ) (a i : ℕ) (w : ℤ) → i < length tail → w ≡ getD tail i (pos 0)
-    → sets l (a + i) (drop i tail) ≡ l₀ → sets (set l (a + i) w) (a + (i + 1)) (drop (i + 1) tail) ≡ l₀
-copy-step tail l l₀ a i w h e inv =
-    let k : a + (i + 1) ≡ suc (a + i) = omega arith in
-    rw (k, add-one i, e) (rw (drop-cons tail i (pos 0) h) at inv)
-
-pub copy-end : (tail l l₀ : List ℤ) (a i : ℕ) → length tail ≤ i → sets l (a + i) (drop i tail) ≡ l₀ → l ≡ l₀
-copy-end tail l l₀ a i h inv = rw (drop-of-length-le tail h) at inv
 
 -- a list from a place to its end
 pub to-end : (l : List ℤ) (k : ℕ) → take (length l - k) (drop k l) ≡ drop k l
@@ -305,10 +295,6 @@ module _ (row : List ℤ) (starts : List ℕ) (k : ℕ) (b e : Buffer) (inside :
 pub tails-all : (row : List ℤ) (starts : List ℕ) (k : ℕ) (b e : Buffer) → length starts ≤ k → layTails row (drop k starts) b ≡ e → b ≡ e
 unfolding layTails
 tails-all row starts k b e l inv = rw (drop-of-length-le starts l) at inv
-
--- ---- a clause stored
-pub tail-stored : (w v : ℤ) (tail l l′ : List ℤ) (f : ℕ) → v ≡ w → l′ ≡ sets (set l f v) (f + 1) tail → l′ ≡ sets l f (w ∷ tail)
-tail-stored w v tail l l′ f e h = h ∙ rw (e, add-one f)
 
 -- ---- r + 1
 pub power-fits : (w : ℕ) → w ≤ 48 → 1 * 2 ^ w % 18446744073709551616 ≡ 2 ^ w

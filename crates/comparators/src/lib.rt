@@ -1,14 +1,12 @@
 // The comparators' clauses, and how much they take. Once a call the outputs' connections become codes, and the codes pairs of words; for each
 // bound the words of its bits stand in a row, and each clause is a tail of it: a word of the row negated, and the row behind it.
 ghost use mathlib.Core.Path.{_≡_};
-ghost use mathlib.Core.List.{_∷_};
 ghost use mathlib.Core.Option.{Option, some};
 ghost use Prim.Native.Nat.{ℕ, _+_, _≤_, _<_, _^_};
 ghost use lib.IntN.{pos};
 ghost use lib.ListN.{length, getD, set, take};
-ghost use lib.Seq.{sets};
 ghost use Rattle.model.specs.Logic.{Lit, pL, nL};
-ghost use Rattle.model.specs.Words.{word, negated, buffer, lay, putEach};
+ghost use Rattle.model.specs.Words.{word, negated, buffer, putEach};
 ghost use Rattle.model.specs.Signs.{Dir, iff, onlyif};
 ghost use Rattle.model.specs.Compare.{Outs, outLit, outLits, compareRows, comparator};
 ghost use Rattle.comparators.specs.Codes.{codeOf, codesOf, pairWord, pairsOf};
@@ -188,32 +186,6 @@ fn row_of(
     }
 }
 
-// The words of a tail, from a place on: the room is tested by the caller, once for the clause.
-fn copy_tail(clauses: &mut [i32], at: usize, tail: &[i32])
-    requires { ⌜ at + length (now tail) ≤ length (now clauses) ⌝ }
-    ensures { λ _. ⌜ now (clauses .exit) ≡ sets (now (clauses .entry)) at (now (tail .entry)) ⌝ }
-{
-    let mut i = 0;
-    while i < tail.len() {
-        clauses[at + i] = tail[i];
-        i += 1;
-    }
-}
-
-// A clause: its first word and a tail, where there is room; the fill after it.
-fn put_tail(clauses: &mut [i32], first: i32, tail: &[i32], fill: usize) -> usize
-    requires { ⌜ length (now tail) ≤ 64 ⌝ }
-    ensures { λ r. ⌜ buffer r (now (clauses .exit)) ≡ lay (first ∷ now (tail .entry)) (buffer fill (now (clauses .entry))) ⌝ }
-{
-    let n = tail.len() + 1;
-    if clauses::has_room(clauses.len(), fill, n) {
-        clauses[fill] = first;
-        copy_tail(clauses, fill + 1, tail);
-        return clauses::raised(fill, n);
-    }
-    clauses::raised(fill, n)
-}
-
 // The negated literal's word.
 fn turned(word: i32) -> i32
     ensures { λ r. ⌜ r ≡ negated word ⌝ }
@@ -224,7 +196,6 @@ fn turned(word: i32) -> i32
 
 // The clauses that begin at these places of the row: the literal there negated, and the row behind it.
 fn put_tails(clauses: &mut [i32], row: &[i32], starts: &[u8], fill: usize) -> usize
-    requires { ⌜ length (now row) ≤ 64 ⌝ }
     ensures { λ r. ⌜ buffer r (now (clauses .exit)) ≡ layTails (now (row .entry)) (now (starts .entry)) (buffer fill (now (clauses .entry))) ⌝ }
 {
     let mut at = fill;
@@ -234,7 +205,7 @@ fn put_tails(clauses: &mut [i32], row: &[i32], starts: &[u8], fill: usize) -> us
         k += 1;
         if q < row.len() {
             let w = turned(row[q]);
-            at = put_tail(clauses, w, &row[q + 1..], at);
+            at = clauses::put_tail(clauses, w, &row[q + 1..], at);
         }
     }
     at
@@ -294,12 +265,12 @@ fn put_ones(
     fill: usize,
     count: usize,
 ) -> Filled
-    requires { ⌜ (2 ≤ length (now row)) × (length (now row) ≤ 64) × (length (now starts) ≤ 48) ⌝ }
+    requires { ⌜ (2 ≤ length (now row)) × (length (now starts) ≤ 48) ⌝ }
     ensures { λ s. ⌜ ((os : Outs) (r : ℕ) (b : Lit) → Rowed onlyif os r b (now (row .entry)) (now (starts .entry)) lowest → sink (now (clauses .exit)) (s .fill) (s .clauses) ≡ putEach (compareRows onlyif os r b) (sink (now (clauses .entry)) fill count)) ⌝ }
 {
     let m = starts.len();
     if 0 < lowest {
-        let f = put_tail(clauses, row[0], &row[1..], fill);
+        let f = clauses::put_tail(clauses, row[0], &row[1..], fill);
         let g = put_tails(clauses, row, starts, f);
         return Filled {
             fill: g,
@@ -331,7 +302,7 @@ pub fn comparator_only_if(
     let w = minus_word(own);
     if q == power(len) {
         let end = [0i32; 1];
-        let f = put_tail(clauses, w, &end, fill);
+        let f = clauses::put_tail(clauses, w, &end, fill);
         let n = clauses::raised(count, 1);
         return Filled {
             fill: f,

@@ -3,13 +3,13 @@ use mathlib.Core.Path.{_≡_, refl, sym, ap, ap₂, _∙_}
 use mathlib.Core.Bool.{Bool, true, false}
 use mathlib.Core.Logic.{⊎-elim}
 use mathlib.Core.List.{List, [], _∷_, _++_}
-use Prim.Native.Nat.{ℕ, suc, _+_, _-_, _/_, _%_, _≤_, _<_, min}
+use Prim.Native.Nat.{ℕ, _+_, _-_, _/_, _%_, _≤_, _<_, min}
 use native.Mathlib.Nat.{eq-or-lt-of-le}
 use native.Mathlib.Omega.{arith}
 use borrow.Author.Tests.{eq-eqb, ne-eqb, eqb-true, eqb-false, le-leb, lt-leb}
 use lib.Dec.{eqb}
 use lib.IntN.{ℤ, pos, negℤ}
-use lib.ListN.{length, set}
+use lib.ListN.{length}
 use lib.Seq.{sets}
 use Rattle.model.proofs.Buffer.{sets-append}
 use Rattle.clauses.proofs.Steps.{laid, dropped}
@@ -57,30 +57,17 @@ pub sign-flipped : (s c f : ℕ) (w : ℤ) → (s % 16 ≡ 1 → ⊥) → f ≡ 
 unfolding signBy
 sign-flipped s c f w e p h = rw (ne-eqb (s % 16) 1 e, ← flip-lit c, ← p) h
 
--- the words of a row as stores, one after another
-module _ (ws : List ℤ) (i : ℕ) where
-  one : i + 1 ≡ suc i
-  one = omega arith
+-- the words of a row, stored
+module _ (ws : List ℤ) (i : ℕ) {v : List ℤ} where
+  pub row-two : {a b x y : ℤ} → a ≡ x → b ≡ y → v ≡ sets ws i (a ∷ b ∷ pos 0 ∷ []) → v ≡ sets ws i (x ∷ y ∷ pos 0 ∷ [])
+  row-two p q e = e ∙ rw (p, q)
 
-  two : i + 2 ≡ suc (suc i)
-  two = omega arith
+  pub row-three : {a b c x y z : ℤ} → a ≡ x → b ≡ y → c ≡ z → v ≡ sets ws i (a ∷ b ∷ c ∷ pos 0 ∷ []) → v ≡ sets ws i (x ∷ y ∷ z ∷ pos 0 ∷ [])
+  row-three p q r e = e ∙ rw (p, q, r)
 
-  three : i + 3 ≡ suc (suc (suc i))
-  three = omega arith
-
-  four : i + 4 ≡ suc (suc (suc (suc i)))
-  four = omega arith
-
-  pub stores2 : {a b x y : ℤ} → a ≡ x → b ≡ y → set (set (set ws i a) (i + 1) b) (i + 2) (pos 0) ≡ sets ws i (x ∷ y ∷ pos 0 ∷ [])
-  stores2 p q = rw (p, q, one, two)
-
-  pub stores3 : {a b c x y z : ℤ} → a ≡ x → b ≡ y → c ≡ z
-      → set (set (set (set ws i a) (i + 1) b) (i + 2) c) (i + 3) (pos 0) ≡ sets ws i (x ∷ y ∷ z ∷ pos 0 ∷ [])
-  stores3 p q r = rw (p, q, r, one, two, three)
-
-  pub stores4 : {a b c d x y z w : ℤ} → a ≡ x → b ≡ y → c ≡ z → d ≡ w
-      → set (set (set (set (set ws i a) (i + 1) b) (i + 2) c) (i + 3) d) (i + 4) (pos 0) ≡ sets ws i (x ∷ y ∷ z ∷ w ∷ pos 0 ∷ [])
-  stores4 p q r s = rw (p, q, r, s, one, two, three, four)
+  pub row-four : {a b c d x y z w : ℤ} → a ≡ x → b ≡ y → c ≡ z → d ≡ w
+      → v ≡ sets ws i (a ∷ b ∷ c ∷ d ∷ pos 0 ∷ []) → v ≡ sets ws i (x ∷ y ∷ z ∷ w ∷ pos 0 ∷ [])
+  row-four p q r s e = e ∙ rw (p, q, r, s)
 
 -- words stored behind words are stored together
 then : (xs ys ws : List ℤ) (i j : ℕ) {v v′ : List ℤ} → v ≡ sets ws i xs → j ≡ i + length xs → v′ ≡ sets v j ys → v′ ≡ sets ws i (xs ++ ys)

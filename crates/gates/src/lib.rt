@@ -64,59 +64,59 @@ fn row_a(clauses: &mut [i32], at: usize, signs: u64, l: Lits)
     requires { ⌜ at + 3 ≤ length (now clauses) ⌝ }
     ensures { λ _. ⌜ now (clauses .exit) ≡ sets (now (clauses .entry)) at (rowA signs l) ⌝ }
 {
-    clauses[at] = signed_word(signs / 0x1000, l.a);
-    clauses[at + 1] = signed_word(signs, l.own);
-    clauses[at + 2] = 0;
+    let a = signed_word(signs / 0x1000, l.a);
+    let own = signed_word(signs, l.own);
+    clauses::store_two(clauses, at, a, own);
 }
 
 fn row_b(clauses: &mut [i32], at: usize, signs: u64, l: Lits)
     requires { ⌜ at + 3 ≤ length (now clauses) ⌝ }
     ensures { λ _. ⌜ now (clauses .exit) ≡ sets (now (clauses .entry)) at (rowB signs l) ⌝ }
 {
-    clauses[at] = signed_word(signs / 0x100, l.b);
-    clauses[at + 1] = signed_word(signs, l.own);
-    clauses[at + 2] = 0;
+    let b = signed_word(signs / 0x100, l.b);
+    let own = signed_word(signs, l.own);
+    clauses::store_two(clauses, at, b, own);
 }
 
 fn row_ab(clauses: &mut [i32], at: usize, signs: u64, l: Lits)
     requires { ⌜ at + 4 ≤ length (now clauses) ⌝ }
     ensures { λ _. ⌜ now (clauses .exit) ≡ sets (now (clauses .entry)) at (rowAB signs l) ⌝ }
 {
-    clauses[at] = signed_word(signs / 0x1000, l.a);
-    clauses[at + 1] = signed_word(signs / 0x100, l.b);
-    clauses[at + 2] = signed_word(signs, l.own);
-    clauses[at + 3] = 0;
+    let a = signed_word(signs / 0x1000, l.a);
+    let b = signed_word(signs / 0x100, l.b);
+    let own = signed_word(signs, l.own);
+    clauses::store_three(clauses, at, a, b, own);
 }
 
 fn row_ac(clauses: &mut [i32], at: usize, signs: u64, l: Lits)
     requires { ⌜ at + 4 ≤ length (now clauses) ⌝ }
     ensures { λ _. ⌜ now (clauses .exit) ≡ sets (now (clauses .entry)) at (rowAC signs l) ⌝ }
 {
-    clauses[at] = signed_word(signs / 0x1000, l.a);
-    clauses[at + 1] = signed_word(signs / 0x10, l.c);
-    clauses[at + 2] = signed_word(signs, l.own);
-    clauses[at + 3] = 0;
+    let a = signed_word(signs / 0x1000, l.a);
+    let c = signed_word(signs / 0x10, l.c);
+    let own = signed_word(signs, l.own);
+    clauses::store_three(clauses, at, a, c, own);
 }
 
 fn row_bc(clauses: &mut [i32], at: usize, signs: u64, l: Lits)
     requires { ⌜ at + 4 ≤ length (now clauses) ⌝ }
     ensures { λ _. ⌜ now (clauses .exit) ≡ sets (now (clauses .entry)) at (rowBC signs l) ⌝ }
 {
-    clauses[at] = signed_word(signs / 0x100, l.b);
-    clauses[at + 1] = signed_word(signs / 0x10, l.c);
-    clauses[at + 2] = signed_word(signs, l.own);
-    clauses[at + 3] = 0;
+    let b = signed_word(signs / 0x100, l.b);
+    let c = signed_word(signs / 0x10, l.c);
+    let own = signed_word(signs, l.own);
+    clauses::store_three(clauses, at, b, c, own);
 }
 
 fn row_abc(clauses: &mut [i32], at: usize, signs: u64, l: Lits)
     requires { ⌜ at + 5 ≤ length (now clauses) ⌝ }
     ensures { λ _. ⌜ now (clauses .exit) ≡ sets (now (clauses .entry)) at (rowABC signs l) ⌝ }
 {
-    clauses[at] = signed_word(signs / 0x1000, l.a);
-    clauses[at + 1] = signed_word(signs / 0x100, l.b);
-    clauses[at + 2] = signed_word(signs / 0x10, l.c);
-    clauses[at + 3] = signed_word(signs, l.own);
-    clauses[at + 4] = 0;
+    let a = signed_word(signs / 0x1000, l.a);
+    let b = signed_word(signs / 0x100, l.b);
+    let c = signed_word(signs / 0x10, l.c);
+    let own = signed_word(signs, l.own);
+    clauses::store_four(clauses, at, a, b, c, own);
 }
 
 // The eight gates, each from its constant, so that the signs fold away where it is compiled.

@@ -191,115 +191,6 @@ fn few_records() -> [u32; 192]
     [0; 192]
 }
 
-// Most calls are small ones: a small table, and few records.
-fn short_tiny(
-    state: State,
-    next: u32,
-    nodes: &[u32],
-    bounds: &[u32],
-    space: usize,
-    up: Cut,
-    down: Cut,
-) -> u32
-    requires { ⌜ Ready state (now nodes) (now bounds) up down × (8 * nodesOf (partyOf (state .party)) ≤ 512) × (keptOf (state .party) + (up .n + down .n) ≤ 64) ⌝ }
-    ensures { λ r. ⌜ ((ws : List ℤ) → length ws ≡ space → space < 18446744073709551615 → r ≡ lacking (valuesOf up) (valuesOf down) (machineOf state next (now (nodes .entry)) (now (bounds .entry)) ws)) ⌝ }
-{
-    let mut table = staging::small_room();
-    let mut records = few_records();
-    short_in(
-        state,
-        next,
-        nodes,
-        bounds,
-        space,
-        up,
-        down,
-        &mut table,
-        &mut records,
-    )
-}
-
-fn short_small(
-    state: State,
-    next: u32,
-    nodes: &[u32],
-    bounds: &[u32],
-    space: usize,
-    up: Cut,
-    down: Cut,
-) -> u32
-    requires { ⌜ Ready state (now nodes) (now bounds) up down × (8 * nodesOf (partyOf (state .party)) ≤ 512) ⌝ }
-    ensures { λ r. ⌜ ((ws : List ℤ) → length ws ≡ space → space < 18446744073709551615 → r ≡ lacking (valuesOf up) (valuesOf down) (machineOf state next (now (nodes .entry)) (now (bounds .entry)) ws)) ⌝ }
-{
-    let mut table = staging::small_room();
-    let mut records = record_room();
-    short_in(
-        state,
-        next,
-        nodes,
-        bounds,
-        space,
-        up,
-        down,
-        &mut table,
-        &mut records,
-    )
-}
-
-fn short_middle(
-    state: State,
-    next: u32,
-    nodes: &[u32],
-    bounds: &[u32],
-    space: usize,
-    up: Cut,
-    down: Cut,
-) -> u32
-    requires { ⌜ Ready state (now nodes) (now bounds) up down × (8 * nodesOf (partyOf (state .party)) ≤ 8192) ⌝ }
-    ensures { λ r. ⌜ ((ws : List ℤ) → length ws ≡ space → space < 18446744073709551615 → r ≡ lacking (valuesOf up) (valuesOf down) (machineOf state next (now (nodes .entry)) (now (bounds .entry)) ws)) ⌝ }
-{
-    let mut table = staging::middle_room();
-    let mut records = record_room();
-    short_in(
-        state,
-        next,
-        nodes,
-        bounds,
-        space,
-        up,
-        down,
-        &mut table,
-        &mut records,
-    )
-}
-
-fn short_large(
-    state: State,
-    next: u32,
-    nodes: &[u32],
-    bounds: &[u32],
-    space: usize,
-    up: Cut,
-    down: Cut,
-) -> u32
-    requires { ⌜ Ready state (now nodes) (now bounds) up down × (8 * nodesOf (partyOf (state .party)) ≤ 32768) ⌝ }
-    ensures { λ r. ⌜ ((ws : List ℤ) → length ws ≡ space → space < 18446744073709551615 → r ≡ lacking (valuesOf up) (valuesOf down) (machineOf state next (now (nodes .entry)) (now (bounds .entry)) ws)) ⌝ }
-{
-    let mut table = staging::large_room();
-    let mut records = record_room();
-    short_in(
-        state,
-        next,
-        nodes,
-        bounds,
-        space,
-        up,
-        down,
-        &mut table,
-        &mut records,
-    )
-}
-
 // Whether there are at most 64 records, old ones and asked ones.
 fn few(old: u32, ups: usize, downs: usize) -> bool
     ensures { λ r. ⌜ (r ≡ true → old + (ups + downs) ≤ 64) ⌝ }
@@ -313,7 +204,8 @@ fn few(old: u32, ups: usize, downs: usize) -> bool
     old as usize + (ups + downs) <= 64
 }
 
-// What an encoding lacks: n is the number of nodes after the build, at most 4,096, and space the buffer's length.
+// What an encoding lacks, in a scratch table t and scratch records r of the size that is needed: most calls are small ones. n is the number
+// of nodes after the build, at most 4,096, and space the buffer's length.
 pub fn encode_short(
     state: State,
     next: u32,
@@ -328,15 +220,21 @@ pub fn encode_short(
     ensures { λ r. ⌜ ((ws : List ℤ) → length ws ≡ space → space < 18446744073709551615 → r ≡ lacking (valuesOf up) (valuesOf down) (machineOf state next (now (nodes .entry)) (now (bounds .entry)) ws)) ⌝ }
 {
     if n <= 64 {
+        let mut t = staging::small_room();
         if few(kept_bounds(state.party), up.n, down.n) {
-            return short_tiny(state, next, nodes, bounds, space, up, down);
+            let mut r = few_records();
+            return short_in(state, next, nodes, bounds, space, up, down, &mut t, &mut r);
         }
-        return short_small(state, next, nodes, bounds, space, up, down);
+        let mut r = record_room();
+        return short_in(state, next, nodes, bounds, space, up, down, &mut t, &mut r);
     }
+    let mut r = record_room();
     if n <= 1024 {
-        return short_middle(state, next, nodes, bounds, space, up, down);
+        let mut t = staging::middle_room();
+        return short_in(state, next, nodes, bounds, space, up, down, &mut t, &mut r);
     }
-    short_large(state, next, nodes, bounds, space, up, down)
+    let mut t = staging::large_room();
+    short_in(state, next, nodes, bounds, space, up, down, &mut t, &mut r)
 }
 
 // The state after its work.

@@ -105,42 +105,21 @@ pub fn large_room() -> [u32; 32768]
     [0; 32768]
 }
 
-fn reserve_small(state: State, next: u32, nodes: &[u32]) -> bool
-    requires { ⌜ Buildable (partyOf (state .party)) (now nodes) × (8 * nodesOf (partyOf (state .party)) ≤ 512) ⌝ }
-    ensures { λ r. ⌜ ((bs : List ℕ) (ws : List ℤ) → r ≡ ltb (greatest + 1) (reserving (built (machineOf state next (now (nodes .entry)) bs ws)) .next)) ⌝ }
-{
-    let mut room = small_room();
-    reserve_in(state, next, nodes, &mut room)
-}
-
-fn reserve_middle(state: State, next: u32, nodes: &[u32]) -> bool
-    requires { ⌜ Buildable (partyOf (state .party)) (now nodes) × (8 * nodesOf (partyOf (state .party)) ≤ 8192) ⌝ }
-    ensures { λ r. ⌜ ((bs : List ℕ) (ws : List ℤ) → r ≡ ltb (greatest + 1) (reserving (built (machineOf state next (now (nodes .entry)) bs ws)) .next)) ⌝ }
-{
-    let mut room = middle_room();
-    reserve_in(state, next, nodes, &mut room)
-}
-
-fn reserve_large(state: State, next: u32, nodes: &[u32]) -> bool
-    requires { ⌜ Buildable (partyOf (state .party)) (now nodes) × (8 * nodesOf (partyOf (state .party)) ≤ 32768) ⌝ }
-    ensures { λ r. ⌜ ((bs : List ℕ) (ws : List ℤ) → r ≡ ltb (greatest + 1) (reserving (built (machineOf state next (now (nodes .entry)) bs ws)) .next)) ⌝ }
-{
-    let mut room = large_room();
-    reserve_in(state, next, nodes, &mut room)
-}
-
 // Whether the numbers that a reserve needs pass the greatest: n is the number of nodes after the build, at most 4,096.
 pub fn reserve_short(state: State, next: u32, nodes: &[u32], n: u32) -> bool
     requires { ⌜ Buildable (partyOf (state .party)) (now nodes) × (n ≡ nodesOf (partyOf (state .party))) × (n ≤ 4096) ⌝ }
     ensures { λ r. ⌜ ((bs : List ℕ) (ws : List ℤ) → r ≡ ltb (greatest + 1) (reserving (built (machineOf state next (now (nodes .entry)) bs ws)) .next)) ⌝ }
 {
     if n <= 64 {
-        return reserve_small(state, next, nodes);
+        let mut room = small_room();
+        return reserve_in(state, next, nodes, &mut room);
     }
     if n <= 1024 {
-        return reserve_middle(state, next, nodes);
+        let mut room = middle_room();
+        return reserve_in(state, next, nodes, &mut room);
     }
-    reserve_large(state, next, nodes)
+    let mut room = large_room();
+    reserve_in(state, next, nodes, &mut room)
 }
 
 // The reserve on the lent table: the state and the next number after it.
