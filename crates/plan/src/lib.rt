@@ -1,5 +1,7 @@
 // The program's plan: what its lines have made so far, over tables of the program's room. A text is read a byte at a time, in blocks of
 // any size.
+mod lines;
+
 use party::State;
 use text::Scan;
 
