@@ -1,2 +1,5 @@
 -- Laws of this crate's definitions.
 pub mod Clearing
+pub mod Adding
+pub mod Asking
+pub mod Texts

@@ -7,7 +7,7 @@ ghost use lib.ListN.{length, replicate};
 ghost use Rattle.model.specs.Logic.{term};
 ghost use Rattle.model.specs.Machine.{Party};
 ghost use Rattle.model.specs.Calls.{add};
-ghost use Rattle.model.specs.Program.{firstStep, laterStep, addLine, askLine};
+ghost use Rattle.model.specs.Program.{stopped, firstStep, laterStep, addLine, askLine};
 ghost use Rattle.text.specs.Scans.{lineRead};
 ghost use Rattle.model.specs.Text.{firstLine, upperLine, lowerLine};
 ghost use Rattle.party.specs.Read.{termOf, machineOf};
@@ -47,6 +47,19 @@ fn clear_words(words: &mut [i32])
     while i < words.len() {
         words[i] = 0;
         i += 1;
+    }
+}
+
+// A plan that a line stopped, with the refusal's number.
+pub fn stopped_at(plan: Plan, number: u32, line: u64) -> Plan
+    ensures { λ r. ⌜ ((nodes bounds : List ℕ) (clauses : List ℤ) (asked : List ℕ) → progressOf r nodes bounds clauses asked ≡ after (stopped number line)) ⌝ }
+{
+    let state = plan.state;
+    Plan {
+        stage: Stage::Stopped { number, line },
+        state,
+        next: plan.next,
+        asked: plan.asked,
     }
 }
 
@@ -92,9 +105,7 @@ pub fn first_line(
     ensures { λ r. ⌜ ((asked : List ℕ) → progressOf r (now (nodes .exit)) (now (bounds .exit)) (now (clauses .exit)) asked ≡ after (firstStep (lineRead line))) ⌝ }
 {
     let Line::First(first) = line else {
-        let mut new = plan;
-        new.stage = Stage::Stopped { number: 1, line: 1 };
-        return new;
+        return stopped_at(plan, 1, 1);
     };
     start_line(first, nodes, bounds, clauses)
 }
@@ -124,18 +135,16 @@ fn add_line(plan: Plan, number: u64, weight: u32, negated: bool, variable: u32) 
     let state = plan.state;
     let a = state.add(t);
     let reply = a.reply;
-    let mut new = plan;
     let Reply::Accepted = reply else {
-        new.stage = Stage::Stopped {
-            number: reply.number(),
-            line: number,
-        };
-        return new;
+        return stopped_at(plan, reply.number(), number);
     };
     let added = a.state;
-    new.stage = Stage::Going;
-    new.state = added;
-    new
+    Plan {
+        stage: Stage::Going,
+        state: added,
+        next: plan.next,
+        asked: plan.asked,
+    }
 }
 
 // The three words of an asked line.
@@ -164,32 +173,24 @@ fn ask_line(
     requires { ⌜ length (now asked) ≡ 768 ⌝ }
     ensures { λ r. ⌜ progressOf r (now (nodes .exit)) (now (bounds .exit)) (now (clauses .exit)) (now (asked .exit)) ≡ after (askLine number (askedAs way from many) (askedBy ask (machineOf (plan .state) (plan .next) (now (nodes .entry)) (now (bounds .entry)) (now (clauses .entry)))) (goingOf plan (now (nodes .entry)) (now (bounds .entry)) (now (clauses .entry)) (now (asked .entry)))) ⌝ }
 {
-    let mut new = plan;
     let n = plan.asked;
     if MOST_ASKED <= n {
-        new.stage = Stage::Stopped {
-            number: 1,
-            line: number,
-        };
-        return new;
+        return stopped_at(plan, 1, number);
     }
     let state = plan.state;
     let e = encoder::run_encode(state, plan.next, nodes, bounds, clauses, ask);
     let reply = e.reply;
     let Reply::Accepted = reply else {
-        new.stage = Stage::Stopped {
-            number: reply.number(),
-            line: number,
-        };
-        return new;
+        return stopped_at(plan, reply.number(), number);
     };
     note(asked, n, way, from, many);
     let encoded = e.state;
-    new.stage = Stage::Going;
-    new.state = encoded;
-    new.next = e.next;
-    new.asked = n + 1;
-    new
+    Plan {
+        stage: Stage::Going,
+        state: encoded,
+        next: e.next,
+        asked: n + 1,
+    }
 }
 
 // How many values there are from one up to another.
@@ -288,12 +289,7 @@ pub fn later_line(
 {
     match line {
         Line::First(_) => {
-            let mut new = plan;
-            new.stage = Stage::Stopped {
-                number: 1,
-                line: number,
-            };
-            return new;
+            return stopped_at(plan, 1, number);
         }
         Line::Term {
             weight,
@@ -309,12 +305,34 @@ pub fn later_line(
             return lower_line(plan, number, from, to, nodes, bounds, clauses, asked);
         }
         Line::NoLine => {
-            let mut new = plan;
-            new.stage = Stage::Stopped {
-                number: 1,
-                line: number,
-            };
-            return new;
+            return stopped_at(plan, 1, number);
+        }
+    }
+}
+
+// A whole line: the first, a later one, or one after a refusal, which does nothing.
+pub fn take_line(
+    plan: Plan,
+    number: u64,
+    line: Line,
+    nodes: &mut [u32],
+    bounds: &mut [u32],
+    clauses: &mut [i32],
+    asked: &mut [u32],
+) -> Plan
+    requires { ⌜ Room (now nodes) (now bounds) (now clauses) (now asked) ⌝ }
+    ensures { λ r. ⌜ progressOf r (now (nodes .exit)) (now (bounds .exit)) (now (clauses .exit)) (now (asked .exit)) ≡ takeLine number (lineRead line) (progressOf plan (now (nodes .entry)) (now (bounds .entry)) (now (clauses .entry)) (now (asked .entry))) ⌝ }
+{
+    let stage = plan.stage;
+    match stage {
+        Stage::First => {
+            return first_line(plan, line, nodes, bounds, clauses);
+        }
+        Stage::Going => {
+            return later_line(plan, number, line, nodes, bounds, clauses, asked);
+        }
+        Stage::Stopped { number: _, line: _ } => {
+            return plan;
         }
     }
 }
