@@ -3,3 +3,4 @@ pub mod Clearing
 pub mod Adding
 pub mod Asking
 pub mod Texts
+pub mod Steps
