@@ -94,10 +94,14 @@ unfolding literalAt inRange variable litOf
 term-zero w true p = alike w w (pL 0) (nL 0) p refl refl
 term-zero w false p = refl
 
-pub term-within : (w : ℕ) (m : Bool) (v : ℕ) (p : Party) (z : ℤ) → v ≤ greatest → z ≡ literalAt (codeBy m v) → add (term w (litOf z) ∷ []) p ≡ add (term w (litBy m v) ∷ []) p
+term-within : (w : ℕ) (m : Bool) (v : ℕ) (p : Party) (z : ℤ) → v ≤ greatest → z ≡ literalAt (codeBy m v) → add (term w (litOf z) ∷ []) p ≡ add (term w (litBy m v) ∷ []) p
 unfolding isLit
 term-within w m zero p z h e = ap (λ (y : ℤ). add (term w (litOf y) ∷ []) p) e ∙ term-zero w m p
 term-within w m (suc n) p z h e =
     let r : inRange (suc n) ≡ true = in-greatest n h in
     ap (λ (y : ℤ). add (term w (litOf y) ∷ []) p) (e ∙ named m (suc n) r)
     ∙ ap (λ (l : Lit). add (term w l ∷ []) p) (word-back (litBy m (suc n)) (ap inRange (varied m (suc n)) ∙ r))
+
+-- the sign as it was tested
+pub term-signed : (w : ℕ) (m b : Bool) (v : ℕ) (p : Party) (z : ℤ) → m ≡ b → v ≤ greatest → z ≡ literalAt (codeBy b v) → add (term w (litOf z) ∷ []) p ≡ add (term w (litBy m v) ∷ []) p
+term-signed w m b v p z q h e = rw q (term-within w b v p z h e)

@@ -4,3 +4,5 @@ pub mod Adding
 pub mod Asking
 pub mod Texts
 pub mod Steps
+pub mod Taking
+pub mod Rooms

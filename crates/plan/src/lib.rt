@@ -9,7 +9,7 @@ ghost use lib.IntN.{ℤ};
 ghost use Rattle.model.specs.Words.{raised};
 ghost use Rattle.text.specs.Folding.{closeLine};
 ghost use Rattle.plan.specs.Read.{outcome};
-ghost use Rattle.plan.specs.Reading.{closed, beginHeld, readAll, heldOf, Room, roomy, readLent, endLent};
+ghost use Rattle.plan.specs.Reading.{closed, beginHeld, readAll, heldOf, Room, roomy, spoilt, readLent, endLent};
 use lines::stopped_at;
 use lines::take_line;
 use party::State;
@@ -106,4 +106,88 @@ fn close_line(
         scan: begun,
         fresh: true,
     }
+}
+
+// Tables of other lengths than the program's room: refusal 12 at the line that is being read.
+fn spoil(r: Reading) -> Reading
+    ensures { λ n. ⌜ ((nodes bounds : List ℕ) (clauses : List ℤ) (asked : List ℕ) → heldOf n nodes bounds clauses asked ≡ spoilt (heldOf r nodes bounds clauses asked)) ⌝ }
+{
+    let old = r.plan;
+    let scan = r.scan;
+    let plan = stopped_at(old, 12, r.line);
+    Reading {
+        plan,
+        line: r.line,
+        scan,
+        fresh: r.fresh,
+    }
+}
+
+// Byte after byte: a newline ends the line, any other is one byte more of it.
+fn read_all(
+    r: Reading,
+    nodes: &mut [u32],
+    bounds: &mut [u32],
+    clauses: &mut [i32],
+    asked: &mut [u32],
+    bytes: &[u8],
+) -> Reading
+    requires { ⌜ Room (now nodes) (now bounds) (now clauses) (now asked) ⌝ }
+    ensures { λ n. ⌜ heldOf n (now (nodes .exit)) (now (bounds .exit)) (now (clauses .exit)) (now (asked .exit)) ≡ readAll (heldOf r (now (nodes .entry)) (now (bounds .entry)) (now (clauses .entry)) (now (asked .entry))) (now (bytes .entry)) ⌝ }
+{
+    let mut held = r;
+    let mut i = 0;
+    while i < bytes.len() {
+        let byte = bytes[i];
+        if byte == b'\n' {
+            held = close_line(held, nodes, bounds, clauses, asked);
+            i += 1;
+        } else {
+            let old = held.scan;
+            let scan = text::scan_byte(old, byte);
+            held.scan = scan;
+            held.fresh = false;
+            i += 1;
+        }
+    }
+    held
+}
+
+// Reads a block of a text. Tables of other lengths than the program's room stop the plan with refusal 12.
+pub fn read_block(
+    r: Reading,
+    nodes: &mut [u32],
+    bounds: &mut [u32],
+    clauses: &mut [i32],
+    asked: &mut [u32],
+    bytes: &[u8],
+) -> Reading
+    ensures { λ n. ⌜ heldOf n (now (nodes .exit)) (now (bounds .exit)) (now (clauses .exit)) (now (asked .exit)) ≡ readLent (roomy (now (nodes .entry)) (now (bounds .entry)) (now (clauses .entry)) (now (asked .entry))) (heldOf r (now (nodes .entry)) (now (bounds .entry)) (now (clauses .entry)) (now (asked .entry))) (now (bytes .entry)) ⌝ }
+{
+    if roomy(nodes, bounds, clauses, asked) {
+        return read_all(r, nodes, bounds, clauses, asked, bytes);
+    }
+    spoil(r)
+}
+
+// The end of the input: a last line without a newline is closed. A plan still before its first line is refusal 1 at line 1.
+pub fn finish(
+    r: Reading,
+    nodes: &mut [u32],
+    bounds: &mut [u32],
+    clauses: &mut [i32],
+    asked: &mut [u32],
+) -> Plan
+    ensures { λ p. ⌜ outcome p (now (nodes .exit)) (now (bounds .exit)) (now (clauses .exit)) (now (asked .exit)) ≡ endLent (roomy (now (nodes .entry)) (now (bounds .entry)) (now (clauses .entry)) (now (asked .entry))) (heldOf r (now (nodes .entry)) (now (bounds .entry)) (now (clauses .entry)) (now (asked .entry))) ⌝ }
+{
+    let plan = r.plan;
+    if roomy(nodes, bounds, clauses, asked) {
+        if r.fresh {
+            return plan;
+        }
+        let last = close_line(r, nodes, bounds, clauses, asked);
+        let done = last.plan;
+        return done;
+    }
+    stopped_at(plan, 12, r.line)
 }

@@ -1,3 +1,5 @@
+-- `close_line` takes the line and begins the next. Assumes nothing.
+use Rattle.plan.proofs.Taking.{line-closed}
 use borrow.Author.Needs.{needs}
 use Rattle.plan.proofs.close_line.Statement.{statement}
 use Rattle.plan.proofs.close_line.Tie as tie
@@ -14,7 +16,7 @@ line-of-requires c κs = search needs
 
 -- src/lib.rt:101:9
 take-line-requires : tie.Need-take-line-requires
-take-line-requires c κs = search needs
+take-line-requires c κs = c .before .before .before .before .before .before .before .before .before .before .pre
 
 -- src/lib.rt:102:9
 begin-line-requires : tie.Need-begin-line-requires
@@ -42,7 +44,7 @@ same-length-4 c = search needs
 
 -- src/lib.rt:88:1
 returns : tie.Need-returns
-returns c = ?
+returns c = line-closed _ _ _ _ _ _ (c .before .before .before .before .before .before .before .before .before .before .before .before .before .before .before .before .before .before .before .before .args .r .fresh) _ (c .before .before .before .before .before .before .before .before .before .before .before .before .before .before .before .line-of .ensures) (c .before .before .before .before .before .before .before .before .before .take-line .ensures) (c .before .begin-line .ensures) (c .next-line .ensures)
 
 pub close-line-spec : {M : Type 1} → statement M
 close-line-spec =

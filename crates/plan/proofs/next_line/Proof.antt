@@ -1,3 +1,6 @@
+-- `next_line` counts lines as the model raises a fill. Assumes nothing.
+use native.Mathlib.Omega.{arith}
+use Rattle.model.specs.Words.{raised}
 use borrow.Author.Needs.{needs}
 use Rattle.plan.proofs.next_line.Statement.{statement}
 use Rattle.plan.proofs.next_line.Tie as tie
@@ -10,11 +13,13 @@ add-result c = search needs
 
 -- src/lib.rt:66:9
 returns : tie.Need-returns
-returns c = ?
+unfolding raised
+returns c = omega arith
 
 -- src/lib.rt:62:1
 returns-2 : tie.Need-returns-2
-returns-2 c = ?
+unfolding raised
+returns-2 c = omega arith
 
 pub next-line-spec : {M : Type 1} → statement M
 next-line-spec = tie.close (tie.spec add-result returns returns-2)

@@ -1,3 +1,6 @@
+-- `add_line` is the model's: what the reply to the term makes of the plan. Assumes nothing.
+use mathlib.Core.Path.{_∙_}
+use Rattle.plan.proofs.Steps.{add-refused, add-done}
 use borrow.Author.Needs.{needs}
 use Rattle.plan.proofs.lines.add_line.Statement.{statement}
 use Rattle.plan.proofs.lines.add_line.Tie as tie
@@ -29,11 +32,13 @@ stopped-at-requires c κs = search needs
 
 -- src/lines.rt:139:9
 returns : tie.Need-returns
-returns c = ?
+returns c = λ nodes bounds clauses asked.
+    c .stopped-at .ensures nodes bounds clauses asked
+    ∙ add-refused (c .before .before .before .before .before .before .args .plan) _ _ _ (c .before .before .before .add .result) (c .before .before .before .add .ensures) (c .before .before .before .before .before .term-of .ensures) nodes bounds clauses asked _ (c .before .before .match .keys2) (c .before .number .ensures)
 
 -- src/lines.rt:131:1
 returns-2 : tie.Need-returns-2
-returns-2 c = ?
+returns-2 c = λ nodes bounds clauses asked. add-done (c .before .before .before .before .before .before .args .plan) _ _ _ (c .before .before .before .add .result) (c .before .before .before .add .ensures) (c .before .before .before .before .before .term-of .ensures) nodes bounds clauses asked (c .before .enum-told .given .1)
 
 pub add-line-spec : {M : Type 1} → statement M
 add-line-spec =

@@ -1,3 +1,7 @@
+-- `ask_line` is the model's: what the reply to the range makes of the plan. Assumes nothing.
+use mathlib.Core.Path.{_∙_}
+use native.Mathlib.Omega.{arith}
+use Rattle.plan.proofs.Steps.{ask-full, ask-refused, ask-done}
 use borrow.Author.Needs.{needs}
 use Rattle.plan.proofs.lines.ask_line.Statement.{statement}
 use Rattle.plan.proofs.lines.ask_line.Tie as tie
@@ -14,7 +18,7 @@ stopped-at-requires c κs = search needs
 
 -- src/lines.rt:178:9
 returns : tie.Need-returns
-returns c = ?
+returns c = c .stopped-at .ensures _ _ _ _ ∙ ask-full (c .before .before .before .before .before .args .plan) (c .before .before .before .before .before .args .number) (c .before .before .before .before .before .args .way) (c .before .before .before .before .before .args .from) (c .before .before .before .before .before .args .many) (c .before .before .before .before .before .args .nodes .now) (c .before .before .before .before .before .args .bounds .now) (c .before .before .before .before .before .args .clauses .now) (c .before .before .before .before .before .args .asked .now) _ (c .before .if1 .taken)
 
 -- src/lines.rt:181:9
 run-encode-requires : tie.Need-run-encode-requires
@@ -45,11 +49,12 @@ same-length-3 c = search needs
 
 -- src/lines.rt:184:9
 returns-2 : tie.Need-returns-2
-returns-2 c = ?
+returns-2 c = c .stopped-at2 .ensures _ _ _ _
+    ∙ ask-refused (c .before .before .before .before .before .before .before .before .before .before .before .before .before .before .before .before .before .args .plan) (c .before .before .before .before .before .before .before .before .before .before .before .before .before .before .before .before .before .args .number) (c .before .before .before .before .before .before .before .before .before .before .before .before .before .before .before .before .before .args .way) (c .before .before .before .before .before .before .before .before .before .before .before .before .before .before .before .before .before .args .from) (c .before .before .before .before .before .before .before .before .before .before .before .before .before .before .before .before .before .args .many) (c .before .before .before .before .before .before .before .before .before .before .before .before .before .before .before .before .before .args .nodes .now) (c .before .before .before .before .before .before .before .before .before .before .before .before .before .before .before .before .before .args .bounds .now) (c .before .before .before .before .before .before .before .before .before .before .before .before .before .before .before .before .before .args .clauses .now) (c .before .before .before .before .before .before .before .before .before .before .before .before .before .before .before .before .before .args .asked .now) _ (c .before .before .before .before .before .before .before .before .run-encode .result) _ _ _ (c .before .before .before .before .before .before .before .before .run-encode .ensures) (c .before .before .before .before .before .before .before .before .before .before .before .before .before .if1 .left) _ (c .before .before .match .keys2) (c .before .number .ensures)
 
 -- src/lines.rt:186:5
 note-requires : tie.Need-note-requires
-note-requires c κs = search needs
+note-requires c κs = omega (arith, c .before .before .before .before .before .before .before .before .before .before .before .before .before .before .before .before .before .pre, c .before .before .before .before .before .before .before .before .before .before .before .before .before .if1 .left)
 
 -- src/lines.rt:192:16
 add-t28 : tie.Need-add-t28
@@ -73,7 +78,7 @@ same-length-7 c = search needs
 
 -- src/lines.rt:161:1
 returns-3 : tie.Need-returns-3
-returns-3 c = ?
+returns-3 c = ask-done (c .before .before .before .before .before .before .before .before .before .before .before .before .before .before .before .before .before .before .before .before .before .args .plan) (c .before .before .before .before .before .before .before .before .before .before .before .before .before .before .before .before .before .before .before .before .before .args .number) (c .before .before .before .before .before .before .before .before .before .before .before .before .before .before .before .before .before .before .before .before .before .args .way) (c .before .before .before .before .before .before .before .before .before .before .before .before .before .before .before .before .before .before .before .before .before .args .from) (c .before .before .before .before .before .before .before .before .before .before .before .before .before .before .before .before .before .before .before .before .before .args .many) (c .before .before .before .before .before .before .before .before .before .before .before .before .before .before .before .before .before .before .before .before .before .args .nodes .now) (c .before .before .before .before .before .before .before .before .before .before .before .before .before .before .before .before .before .before .before .before .before .args .bounds .now) (c .before .before .before .before .before .before .before .before .before .before .before .before .before .before .before .before .before .before .before .before .before .args .clauses .now) (c .before .before .before .before .before .before .before .before .before .before .before .before .before .before .before .before .before .before .before .before .before .args .asked .now) _ (c .before .before .before .before .before .before .before .before .before .before .before .before .run-encode .result) _ _ _ (c .before .before .before .before .before .before .before .before .before .before .before .before .run-encode .ensures) (c .before .before .before .before .before .before .before .before .before .before .before .before .before .before .before .before .before .if1 .left) _ (c .before .before .before .before .before .enum-told .given .1) (c .before .before .before .before .before .before .before .before .before .before .before .before .before .before .before .before .before .before .before .before .before .pre) (c .before .before .before .note .ensures)
 
 pub ask-line-spec : {M : Type 1} → statement M
 ask-line-spec =

@@ -1,3 +1,10 @@
+-- `first_line` is the model's: `f F`, or refusal 1. Assumes nothing.
+use mathlib.Core.Path.{sym, ap, _∙_}
+use Rattle.model.specs.Program.{firstStep}
+use Rattle.text.specs.declared.Line.{Line}
+use Rattle.text.specs.Scans.{lineRead}
+use Rattle.plan.specs.Reading.{after}
+use Rattle.plan.proofs.Taking.{first-other}
 use borrow.Author.Needs.{needs}
 use Rattle.plan.proofs.lines.first_line.Statement.{statement}
 use Rattle.plan.proofs.lines.first_line.Tie as tie
@@ -16,7 +23,7 @@ stopped-at-requires c κs = search needs
 
 -- src/lines.rt:108:9
 returns : tie.Need-returns
-returns c = ?
+returns c = λ asked. c .stopped-at .ensures _ _ _ asked ∙ first-other (c .before .before .before .before .args .line) (c .before .match .keys2)
 
 -- src/lines.rt:110:5
 start-line-requires : tie.Need-start-line-requires
@@ -36,7 +43,7 @@ same-length-3 c = search needs
 
 -- src/lines.rt:97:1
 returns-2 : tie.Need-returns-2
-returns-2 c = ?
+returns-2 c = λ asked. c .before .before .before .before .before .start-line .ensures asked ∙ ap (λ (l : Line). after (firstStep (lineRead l))) (sym (c .before .before .before .before .before .before .before .before .before .before .line .given .1))
 
 pub first-line-spec : {M : Type 1} → statement M
 first-line-spec =

@@ -1,3 +1,5 @@
+-- `later_line` is the model's, by the line's form. Assumes nothing.
+use Rattle.plan.proofs.Taking.{later-first, later-term, later-none, later-as}
 use borrow.Author.Needs.{needs}
 use Rattle.plan.proofs.lines.later_line.Statement.{statement}
 use Rattle.plan.proofs.lines.later_line.Tie as tie
@@ -18,7 +20,7 @@ stopped-at-requires c κs = search needs
 
 -- src/lines.rt:292:13
 returns : tie.Need-returns
-returns c = ?
+returns c = later-first _ _ _ (c .before .before .before .before .before .before .args .line) _ (c .before .enum-told .given .1) (c .stopped-at .ensures _ _ _ _)
 
 -- src/lines.rt:295:13
 enum-known-line : tie.Need-enum-known-line
@@ -30,7 +32,7 @@ add-line-requires c κs = search needs
 
 -- src/lines.rt:299:13
 returns-2 : tie.Need-returns-2
-returns-2 c = ?
+returns-2 c = later-term _ _ _ (c .before .before .before .before .before .before .before .args .line) _ _ _ (c .before .before .line .given .1) (c .add-line .ensures _ _ _ _)
 
 -- src/lines.rt:301:21
 enum-known-line-2 : tie.Need-enum-known-line-2
@@ -58,7 +60,7 @@ same-length-4 c = search needs
 
 -- src/lines.rt:302:13
 returns-3 : tie.Need-returns-3
-returns-3 c = ?
+returns-3 c = later-as _ _ _ (c .before .before .before .before .before .before .before .before .before .before .before .before .before .before .before .before .before .before .args .line) _ (c .before .before .before .before .before .before .before .before .before .before .before .before .before .line2 .given .1) (c .before .before .before .before .before .before .before .upper-line .ensures)
 
 -- src/lines.rt:304:21
 enum-known-line-3 : tie.Need-enum-known-line-3
@@ -86,7 +88,7 @@ same-length-8 c = search needs
 
 -- src/lines.rt:305:13
 returns-4 : tie.Need-returns-4
-returns-4 c = ?
+returns-4 c = later-as _ _ _ (c .before .before .before .before .before .before .before .before .before .before .before .before .before .before .before .before .before .before .args .line) _ (c .before .before .before .before .before .before .before .before .before .before .before .before .before .line3 .given .1) (c .before .before .before .before .before .before .before .lower-line .ensures)
 
 -- src/lines.rt:308:13
 enum-told-2 : tie.Need-enum-told-2
@@ -98,7 +100,7 @@ stopped-at-requires-2 c κs = search needs
 
 -- src/lines.rt:308:13
 returns-5 : tie.Need-returns-5
-returns-5 c = ?
+returns-5 c = later-none _ _ _ (c .before .before .before .before .before .before .args .line) (c .before .enum-told2 .given .1) (c .stopped-at2 .ensures _ _ _ _)
 
 pub later-line-spec : {M : Type 1} → statement M
 later-line-spec =

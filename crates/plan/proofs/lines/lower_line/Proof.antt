@@ -1,3 +1,5 @@
+-- `lower_line` notes the range as cut at its call. Assumes nothing.
+use Rattle.plan.proofs.Steps.{lower-step}
 use borrow.Author.Needs.{needs}
 use Rattle.plan.proofs.lines.lower_line.Statement.{statement}
 use Rattle.plan.proofs.lines.lower_line.Tie as tie
@@ -47,7 +49,7 @@ same-length-4 c = search needs
 
 -- src/lines.rt:250:1
 returns : tie.Need-returns
-returns c = ?
+returns c = lower-step (c .before .before .before .before .before .before .before .before .before .before .before .before .before .before .before .before .before .before .before .before .args .plan) (c .before .before .before .before .before .before .before .before .before .before .before .before .before .before .before .before .before .before .before .before .args .number) (c .before .before .before .before .before .before .before .before .before .before .before .before .before .before .before .before .before .before .before .before .args .from) (c .before .before .before .before .before .before .before .before .before .before .before .before .before .before .before .before .before .before .before .before .args .to) _ (c .before .before .before .before .before .before .before .before .before .before .before .before .before .before .before .before .before .before .before .before .args .nodes .now) (c .before .before .before .before .before .before .before .before .before .before .before .before .before .before .before .before .before .before .before .before .args .bounds .now) (c .before .before .before .before .before .before .before .before .before .before .before .before .before .before .before .before .before .before .before .before .args .clauses .now) (c .before .before .before .before .before .before .before .before .before .before .before .before .before .before .before .before .before .before .before .before .args .asked .now) (c .before .before .before .before .before .before .before .before .before .before .before .before .before .before .before .total .ensures) _ _ _ (c .before .before .before .before .before .before .before .before .before .before .before .before .before .before .at-least-one .ensures) (c .before .before .before .before .before .before .before .before .before .before .before .before .before .least-next .ensures) (c .before .before .before .before .before .before .before .before .before .before .before .before .span .ensures) _ (c .before .before .before .before .before .before .before .ask-line .ensures)
 
 pub lower-line-spec : {M : Type 1} → statement M
 lower-line-spec =

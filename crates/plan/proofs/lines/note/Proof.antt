@@ -1,3 +1,8 @@
+-- `note` stores the three words. Assumes nothing.
+use mathlib.Core.Path.{refl}
+use native.Mathlib.Omega.{arith}
+use lib.ListN.{length-set}
+use Rattle.plan.specs.Noting.{noted}
 use borrow.Author.Needs.{needs}
 use Rattle.plan.proofs.lines.note.Statement.{statement}
 use Rattle.plan.proofs.lines.note.Tie as tie
@@ -30,7 +35,7 @@ mul-asked-4 c = search needs
 
 -- src/lines.rt:147:5
 slice-write-asked-2 : tie.Need-slice-write-asked-2
-slice-write-asked-2 c = ?
+slice-write-asked-2 c = simp length-set (omega arith)
 
 -- src/lines.rt:148:11
 mul-asked-5 : tie.Need-mul-asked-5
@@ -54,7 +59,8 @@ same-length c = search needs
 
 -- src/lines.rt:142:1
 returns : tie.Need-returns
-returns c = ?
+unfolding noted
+returns c = refl
 
 pub note-spec : {M : Type 1} → statement M
 note-spec =

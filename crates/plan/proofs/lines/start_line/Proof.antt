@@ -1,3 +1,9 @@
+-- `start_line` is the model's first line `f F`. Assumes nothing.
+use mathlib.Core.Path.{ap, _∙_}
+use Prim.Native.Nat.{ℕ}
+use lib.IntN.{pos}
+use lib.ListN.{replicate}
+use Rattle.plan.proofs.Steps.{start-refused, start-done}
 use borrow.Author.Needs.{needs}
 use Rattle.plan.proofs.lines.start_line.Statement.{statement}
 use Rattle.plan.proofs.lines.start_line.Tie as tie
@@ -21,7 +27,7 @@ number-requires c κs = search needs
 
 -- src/lines.rt:62:9
 returns : tie.Need-returns
-returns c = ?
+returns c = λ asked. start-refused _ (c .before .before .before .start .result) (c .before .before .before .start .ensures) _ (c .before .match .keys2) (c .number .ensures)
 
 -- src/lines.rt:72:5
 clear-requires : tie.Need-clear-requires
@@ -49,7 +55,11 @@ same-length-3 c = search needs
 
 -- src/lines.rt:54:1
 returns-2 : tie.Need-returns-2
-returns-2 c = ?
+returns-2 c = λ asked.
+    start-done _ (c .before .before .before .before .before .before .before .before .before .before .before .before .before .before .start .result) (c .before .before .before .before .before .before .before .before .before .before .before .before .before .before .start .ensures) _ _ _ asked (c .before .before .before .before .before .before .before .before .before .before .before .enum-told .given .1)
+    (c .before .before .before .before .before .before .before .before .before .clear .ensures ∙ ap (λ (n : ℕ). replicate n 0) (c .before .before .before .before .before .before .before .before .before .before .before .before .before .before .before .before .before .pre .0))
+    (c .before .before .before .before .before .clear2 .ensures ∙ ap (λ (n : ℕ). replicate n 0) (c .before .before .before .before .before .before .before .before .before .before .before .before .before .before .before .before .before .pre .1))
+    (c .before .clear-words .ensures ∙ ap (λ (n : ℕ). replicate n (pos 0)) (c .before .before .before .before .before .before .before .before .before .before .before .before .before .before .before .before .before .pre .2))
 
 pub start-line-spec : {M : Type 1} → statement M
 start-line-spec =

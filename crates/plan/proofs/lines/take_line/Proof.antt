@@ -1,3 +1,5 @@
+-- `take_line` is the model's step, by the plan's stage. Assumes nothing.
+use Rattle.plan.proofs.Taking.{take-first, take-later, take-none}
 use borrow.Author.Needs.{needs}
 use Rattle.plan.proofs.lines.take_line.Statement.{statement}
 use Rattle.plan.proofs.lines.take_line.Tie as tie
@@ -12,7 +14,7 @@ enum-told c = search needs
 
 -- src/lines.rt:329:13
 first-line-requires : tie.Need-first-line-requires
-first-line-requires c κs = search needs
+first-line-requires c κs = (c .before .before .before .before .before .before .before .before .pre .nodes, c .before .before .before .before .before .before .before .before .pre .bounds, c .before .before .before .before .before .before .before .before .pre .clauses)
 
 -- src/lines.rt:329:13
 same-length : tie.Need-same-length
@@ -28,7 +30,7 @@ same-length-3 c = search needs
 
 -- src/lines.rt:329:13
 returns : tie.Need-returns
-returns c = ?
+returns c = take-first _ _ _ (c .before .before .before .before .before .before .before .before .before .before .before .before .before .before .args .plan .stage) _ (c .before .before .before .before .before .before .before .before .before .enum-told .given .1) (c .before .before .before .before .before .first-line .ensures _)
 
 -- src/lines.rt:332:51
 enum-told-2 : tie.Need-enum-told-2
@@ -36,7 +38,7 @@ enum-told-2 c = search needs
 
 -- src/lines.rt:332:13
 later-line-requires : tie.Need-later-line-requires
-later-line-requires c κs = search needs
+later-line-requires c κs = c .before .before .before .before .before .before .before .before .before .pre .asked
 
 -- src/lines.rt:332:13
 same-length-4 : tie.Need-same-length-4
@@ -56,7 +58,7 @@ same-length-7 c = search needs
 
 -- src/lines.rt:332:13
 returns-2 : tie.Need-returns-2
-returns-2 c = ?
+returns-2 c = take-later _ _ _ (c .before .before .before .before .before .before .before .before .before .before .before .before .before .before .before .before .before .args .plan .stage) _ (c .before .before .before .before .before .before .before .before .before .before .before .before .enum-told2 .given .1) (c .before .before .before .before .before .before .before .later-line .ensures)
 
 -- src/lines.rt:335:13
 enum-told-3 : tie.Need-enum-told-3
@@ -64,7 +66,7 @@ enum-told-3 c = search needs
 
 -- src/lines.rt:335:13
 returns-3 : tie.Need-returns-3
-returns-3 c = ?
+returns-3 c = take-none _ _ _ (c .before .before .before .before .before .args .plan .stage) _ _ (c .enum-told3 .given .1)
 
 pub take-line-spec : {M : Type 1} → statement M
 take-line-spec =

@@ -1,3 +1,5 @@
+-- `upper_line` notes the range as cut at its call. Assumes nothing.
+use Rattle.plan.proofs.Steps.{upper-step}
 use borrow.Author.Needs.{needs}
 use Rattle.plan.proofs.lines.upper_line.Statement.{statement}
 use Rattle.plan.proofs.lines.upper_line.Tie as tie
@@ -42,7 +44,7 @@ same-length-4 c = search needs
 
 -- src/lines.rt:223:1
 returns : tie.Need-returns
-returns c = ?
+returns c = upper-step (c .before .before .before .before .before .before .before .before .before .before .before .before .before .before .before .before .before .before .before .args .plan) (c .before .before .before .before .before .before .before .before .before .before .before .before .before .before .before .before .before .before .before .args .number) (c .before .before .before .before .before .before .before .before .before .before .before .before .before .before .before .before .before .before .before .args .from) (c .before .before .before .before .before .before .before .before .before .before .before .before .before .before .before .before .before .before .before .args .to) _ (c .before .before .before .before .before .before .before .before .before .before .before .before .before .before .before .before .before .before .before .args .nodes .now) (c .before .before .before .before .before .before .before .before .before .before .before .before .before .before .before .before .before .before .before .args .bounds .now) (c .before .before .before .before .before .before .before .before .before .before .before .before .before .before .before .before .before .before .before .args .clauses .now) (c .before .before .before .before .before .before .before .before .before .before .before .before .before .before .before .before .before .before .before .args .asked .now) (c .before .before .before .before .before .before .before .before .before .before .before .before .before .before .total .ensures) _ _ (c .before .before .before .before .before .before .before .before .before .before .before .before .before .least .ensures) (c .before .before .before .before .before .before .before .before .before .before .before .before .span .ensures) _ (c .before .before .before .before .before .before .before .ask-line .ensures)
 
 pub upper-line-spec : {M : Type 1} → statement M
 upper-line-spec =
