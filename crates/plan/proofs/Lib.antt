@@ -6,3 +6,4 @@ pub mod Texts
 pub mod Steps
 pub mod Taking
 pub mod Rooms
+pub mod Blocks

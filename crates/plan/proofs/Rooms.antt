@@ -1,5 +1,5 @@
 -- The test of the tables' lengths, and what it tells. Assumes nothing.
-use mathlib.Core.Path.{_≡_, refl, _∙_}
+use mathlib.Core.Path.{_≡_, sym, _∙_}
 use mathlib.Core.Bool.{Bool, true, false, _&&_}
 use mathlib.Core.List.{List}
 use Prim.Native.Nat.{ℕ}
@@ -29,4 +29,13 @@ module _ (ns bs : List ℕ) (ws : List ℤ) (ls : List ℕ) where
 
   pub room : (t : Bool) → t ≡ roomy ns bs ws ls → t ≡ true → Room ns bs ws ls
   unfolding roomy
-  room t q e = ?
+  room t q e =
+      let x = both (eqb (length ns) 8192) (eqb (length bs) 3072 && (eqb (length ws) 12288 && eqb (length ls) 768)) (sym q ∙ e) in
+      let y = both (eqb (length bs) 3072) (eqb (length ws) 12288 && eqb (length ls) 768) (x .1) in
+      let z = both (eqb (length ws) 12288) (eqb (length ls) 768) (y .1) in
+      record {
+        nodes = eqb-true (length ns) 8192 (x .0);
+        bounds = eqb-true (length bs) 3072 (y .0);
+        clauses = eqb-true (length ws) 12288 (z .0);
+        asked = eqb-true (length ls) 768 (z .1);
+      }

@@ -139,15 +139,14 @@ fn read_all(
     let mut i = 0;
     while i < bytes.len() {
         let byte = bytes[i];
+        i += 1;
         if byte == b'\n' {
             held = close_line(held, nodes, bounds, clauses, asked);
-            i += 1;
         } else {
             let old = held.scan;
             let scan = text::scan_byte(old, byte);
             held.scan = scan;
             held.fresh = false;
-            i += 1;
         }
     }
     held

@@ -1,3 +1,7 @@
+-- `spoil` stops a plan whose tables have other lengths. Assumes nothing.
+use mathlib.Core.Path.{ap}
+use Rattle.text.specs.Folding.{folded}
+use Rattle.plan.specs.Reading.{Progress, linesAt, spoilt}
 use borrow.Author.Needs.{needs}
 use Rattle.plan.proofs.spoil.Statement.{statement}
 use Rattle.plan.proofs.spoil.Tie as tie
@@ -11,7 +15,8 @@ stopped-at-requires c κs = search needs
 
 -- src/lib.rt:112:1
 returns : tie.Need-returns
-returns c = ?
+unfolding spoilt
+returns c = λ nodes bounds clauses asked. ap (λ (p : Progress). folded (linesAt p (c .before .before .before .args .r .line)) (c .before .before .before .args .r .scan) (c .before .before .before .args .r .fresh)) (c .stopped-at .ensures nodes bounds clauses asked)
 
 pub spoil-spec : {M : Type 1} → statement M
 spoil-spec = tie.close (tie.spec stopped-at-requires returns)
