@@ -1,16 +1,13 @@
 -- The words of an asked line, read back; and what a reply to it makes of a plan. Assumes nothing.
-use mathlib.Core.Path.{_≡_, refl, sym, ap, ap₂, _∙_}
-use mathlib.Core.Bool.{Bool, true, false, cond}
+use mathlib.Core.Path.{_≡_, refl, ap, ap₂, _∙_}
 use mathlib.Core.List.{List, [], _∷_, _++_}
-use Prim.Native.Nat.{ℕ, zero, suc, _+_, _*_, _-_, _<_, _≤_, min, max}
+use Prim.Native.Nat.{ℕ, zero, suc, _+_, _*_, _-_, _<_}
 use native.Mathlib.Numerals.{add-one}
 use native.Mathlib.Omega.{arith}
-use borrow.Author.Tests.{lt-ltb, le-ltb}
-use lib.Dec.{ltb, eqb}
 use lib.ListN.{length, getD, set, length-set}
 use lib.Seq.{getD-set-same, getD-set-other}
 use Rattle.model.specs.Program as program
-use Rattle.plan.specs.Read.{askedDir, askedAt, askedFrom}
+use Rattle.plan.specs.Read.{askedAt, askedFrom}
 use Rattle.plan.specs.Noting.{noted, askedAs}
 
 pub asked-length : (t : List ℕ) (i n : ℕ) → length (askedFrom t i n) ≡ n

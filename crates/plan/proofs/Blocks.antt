@@ -1,22 +1,21 @@
 -- One byte more of a block, on each way of the code; and the end of the input. Assumes nothing.
 use mathlib.Core.Path.{_≡_, refl, sym, ap, _∙_}
-use mathlib.Core.Bool.{Bool, true, false, cond}
-use mathlib.Core.List.{List, [], _∷_}
-use Prim.Native.Nat.{ℕ, suc, _+_, _<_, _≤_}
+use mathlib.Core.Bool.{Bool, true, false}
+use mathlib.Core.List.{List}
+use Prim.Native.Nat.{ℕ, _+_, _<_, _≤_}
 use native.Mathlib.Numerals.{add-one}
-use native.Mathlib.Omega.{arith}
 use borrow.Author.Tests.{eq-eqb, ne-eqb}
 use lib.ListN.{length, getD, drop, drop-of-length-le}
 use lib.Seq.{drop-cons}
 use Rattle.model.specs.Program as program
-use Rattle.model.specs.Program.{Outcome, stopped}
+use Rattle.model.specs.Program.{stopped}
 use Rattle.text.specs.declared.Scan.{Scan}
 use Rattle.text.specs.Scans.{scanOf}
 use Rattle.text.specs.Folding.{folded, closeLine, foldByte, foldEnd}
 use Rattle.plan.specs.declared.Stage.{Stage}
 use Rattle.plan.specs.declared.Stage.the-variants.{First, Going, Stopped}
 use Rattle.plan.specs.Read.{stageOf}
-use Rattle.plan.specs.Reading.{Lines, Held, Progress, after, linesAt, closed, readByte, readAll, outcomeAt, endOf, stageAt, spoilt, readLent, endLent}
+use Rattle.plan.specs.Reading.{Held, after, closed, readByte, readAll, outcomeAt, endOf, stageAt, spoilt, readLent, endLent}
 
 -- what is left of a block, read from here, is the whole
 module _ (goal h : Held) (bs : List ℕ) (i : ℕ) (inside : i < length bs) (same : readAll h (drop i bs) ≡ goal) where

@@ -27,6 +27,11 @@ module _ (ns bs : List ℕ) (ws : List ℤ) (ls : List ℕ) where
   unfolding roomy
   asked-left e f g = rw (eq-eqb (length ns) 8192 e, eq-eqb (length bs) 3072 f, eq-eqb (length ws) 12288 g)
 
+  -- the test passes exactly where the tables have their room
+  pub fits : Room ns bs ws ls → roomy ns bs ws ls ≡ true
+  unfolding roomy
+  fits r = rw (eq-eqb (length ns) 8192 (r .nodes), eq-eqb (length bs) 3072 (r .bounds), eq-eqb (length ws) 12288 (r .clauses), eq-eqb (length ls) 768 (r .asked))
+
   pub room : (t : Bool) → t ≡ roomy ns bs ws ls → t ≡ true → Room ns bs ws ls
   unfolding roomy
   room t q e =

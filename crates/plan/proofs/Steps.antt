@@ -1,13 +1,13 @@
 -- What a reply makes of a line, on each way of the code. Assumes nothing.
 use mathlib.Core.Path.{_≡_, refl, sym, ap, ap₂, _∙_}
-use mathlib.Core.Bool.{Bool, true, false, cond}
-use mathlib.Core.List.{List, [], _∷_, _++_}
-use Prim.Native.Nat.{ℕ, zero, suc, _+_, _*_, _-_, _<_, _≤_, min, max}
+use mathlib.Core.Bool.{true, false}
+use mathlib.Core.List.{List, [], _∷_}
+use Prim.Native.Nat.{ℕ, _+_, _-_, _<_, _≤_, min, max}
 use native.Mathlib.Omega.{arith}
 use borrow.Author.Tests.{lt-ltb, le-ltb}
 use denote.Enum.Declared.{tagOf}
 use types.Run.{OneOf, miss}
-use lib.Dec.{ltb, eqb}
+use lib.Dec.{eqb}
 use lib.IntN.{ℤ, pos}
 use lib.ListN.{length, replicate}
 use Rattle.model.specs.Logic.{Term}
@@ -16,10 +16,8 @@ use Rattle.model.specs.Replies.{number}
 use Rattle.model.specs.Calls.{start, add, Replied, encodeUp, encodeDown}
 use Rattle.model.specs.Calls as calls
 use Rattle.model.specs.Program.{going, stopped, firstMachine, firstStep, addLine, askLine, askedUp, askedDown, laterStep, Asked}
-
 use Rattle.model.specs.Text.{firstLine, upperLine, lowerLine}
 use Rattle.party.proofs.Reply.{the-type}
-use Rattle.party.specs.declared.State.{State}
 use Rattle.party.specs.declared.Reply.{Reply}
 use Rattle.party.specs.declared.Reply.the-variants.{Accepted, BadTerm, SumTooLarge, PendingFull, TooManyBounds, TooWide, NoNodes, NoVariables, NoRoom, Damaged, BadStart}
 use Rattle.party.specs.declared.Started.{Started}
@@ -30,7 +28,7 @@ use Rattle.encoder.specs.Read.{encodedOf}
 use Rattle.plan.specs.declared.Plan.{Plan}
 use Rattle.plan.specs.declared.Stage.the-variants.{Going}
 use Rattle.plan.specs.Read.{goingOf, askedFrom}
-use Rattle.plan.specs.Reading.{Progress, after, progressOf}
+use Rattle.plan.specs.Reading.{Progress, after}
 use Rattle.plan.specs.Noting.{noted, askedAs}
 use Rattle.plan.proofs.Asking.{asked-length, noted-asked}
 

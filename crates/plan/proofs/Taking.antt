@@ -1,11 +1,10 @@
 -- A whole line, told by its form and by the plan's stage; and the end of a line. Assumes nothing.
-use mathlib.Core.Path.{_≡_, refl, sym, ap, ap₂, _∙_}
+use mathlib.Core.Path.{_≡_, refl}
 use mathlib.Core.Bool.{Bool, true}
-use mathlib.Core.List.{List, [], _∷_}
+use mathlib.Core.List.{[], _∷_}
 use Prim.Native.Nat.{ℕ}
 use denote.Enum.Declared.{tagOf}
 use types.Run.{OneOf, miss}
-use lib.IntN.{ℤ}
 use Rattle.model.specs.Logic.{term}
 use Rattle.model.specs.Text as text
 use Rattle.model.specs.Words.{raised}
@@ -20,8 +19,7 @@ use Rattle.text.specs.Folding.{folded, closeLine}
 use Rattle.plan.specs.declared.Plan.{Plan}
 use Rattle.plan.specs.declared.Stage.{Stage}
 use Rattle.plan.specs.declared.Stage.the-variants as stages
-use Rattle.plan.specs.Read.{goingOf}
-use Rattle.plan.specs.Reading.{Progress, after, linesAt, takeLine, closed, stageAt, progressOf, Held}
+use Rattle.plan.specs.Reading.{Progress, after, linesAt, takeLine, closed, stageAt, Held}
 use Rattle.plan.specs.Noting.{litBy}
 
 -- the first line, by its form: every tag but that of `f F` is refused

@@ -3,13 +3,13 @@
 use mathlib.Core.Path.{_≡_, refl, ap, _∙_}
 use mathlib.Core.Bool.{Bool, true, false, cond}
 use mathlib.Core.List.{List, [], _∷_, _++_}
-use Prim.Native.Nat.{ℕ, suc, _+_, _≤_, _<_, min}
+use Prim.Native.Nat.{ℕ, suc, _+_, _≤_}
 use native.Mathlib.Omega.{arith}
 use lib.Dec.{eqb}
 use lib.ListN.{length}
 use Rattle.model.specs.Limits.{mostFill}
 use Rattle.model.specs.Words.{raised}
-use Rattle.model.specs.Text.{newline, before, split, dropEmptyLast, linesOf, lineOf}
+use Rattle.model.specs.Text.{newline, before, dropEmptyLast, linesOf, lineOf}
 use Rattle.model.specs.Program.{Outcome, going, stopped, firstStep, laterStep, steps, outcomeOf}
 use Rattle.text.specs.Folding.{foldLines}
 use Rattle.text.proofs.Lines.{parted}

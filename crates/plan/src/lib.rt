@@ -1,5 +1,6 @@
 // The program's plan: what its lines have made so far, over tables of the program's room. A text is read a byte at a time, in blocks of
-// any size.
+// any size: the law of reading (proofs/Texts: `whole-text`, `cut-anywhere`) says that a text of fewer than 2^64 bytes, however it is
+// cut, gives the model's outcome of its lines. Every function that others call is total: tables of other lengths are refusal 12.
 mod lines;
 
 ghost use mathlib.Core.Path.{_≡_};

@@ -51,7 +51,7 @@ fn clear_words(words: &mut [i32])
 }
 
 // A plan that a line stopped, with the refusal's number.
-pub fn stopped_at(plan: Plan, number: u32, line: u64) -> Plan
+pub(crate) fn stopped_at(plan: Plan, number: u32, line: u64) -> Plan
     ensures { λ r. ⌜ ((nodes bounds : List ℕ) (clauses : List ℤ) (asked : List ℕ) → progressOf r nodes bounds clauses asked ≡ after (stopped number line)) ⌝ }
 {
     let state = plan.state;
@@ -94,7 +94,7 @@ fn start_line(first: u32, nodes: &mut [u32], bounds: &mut [u32], clauses: &mut [
 }
 
 // The first line: `f F` or a refusal.
-pub fn first_line(
+fn first_line(
     plan: Plan,
     line: Line,
     nodes: &mut [u32],
@@ -242,7 +242,16 @@ fn upper_line(
         to: to as u64,
     });
     ask_line(
-        plan, number, ask, 0, from, many, nodes, bounds, clauses, asked,
+        plan,
+        number,
+        ask,
+        0,
+        from,
+        many,
+        nodes,
+        bounds,
+        clauses,
+        asked,
     )
 }
 
@@ -270,12 +279,21 @@ fn lower_line(
         to: to as u64,
     });
     ask_line(
-        plan, number, ask, 1, low, many, nodes, bounds, clauses, asked,
+        plan,
+        number,
+        ask,
+        1,
+        low,
+        many,
+        nodes,
+        bounds,
+        clauses,
+        asked,
     )
 }
 
 // A line after the first, where none was refused.
-pub fn later_line(
+fn later_line(
     plan: Plan,
     number: u64,
     line: Line,
@@ -311,7 +329,7 @@ pub fn later_line(
 }
 
 // A whole line: the first, a later one, or one after a refusal, which does nothing.
-pub fn take_line(
+pub(crate) fn take_line(
     plan: Plan,
     number: u64,
     line: Line,

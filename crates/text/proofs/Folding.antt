@@ -4,7 +4,7 @@ use mathlib.Core.Bool.{Bool, true, false, cond}
 use mathlib.Core.List.{List, [], _∷_, _++_}
 use Prim.Native.Nat.{ℕ}
 use lib.Dec.{eqb}
-use Rattle.model.specs.Text.{newline, before, split, dropEmptyLast, linesOf, lineOf}
+use Rattle.model.specs.Text.{newline, before, split, dropEmptyLast, linesOf}
 use Rattle.model.specs.Text as text
 use Rattle.text.specs.declared.Scan.{Scan}
 use Rattle.text.specs.Scans.{beginOf, scanOf, scanAll, lineOfScan, lineRead}

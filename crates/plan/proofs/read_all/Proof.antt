@@ -8,10 +8,6 @@ use Rattle.plan.specs.Reading.{readAll, heldOf, Room}
 use Rattle.plan.proofs.Blocks.{line-more, other-more, block-all}
 use Rattle.plan.proofs.read_all.Statement.{statement}
 use Rattle.plan.proofs.read_all.Tie as tie
-use Rattle.plan.proofs.read_all.Reads as reads
-use Rattle.plan.proofs.read_all.Lts as lts
-use Rattle.plan.proofs.close_line.Reads as close-line-reads
-use Rattle.text.proofs.scan_byte.Reads as scan-byte-reads
 
 abbrev Inv-loop : tie.InvT-loop
 Inv-loop nodes₀ bounds₀ clauses₀ asked₀ bytes held₀ i₀ nodes bounds clauses asked held i =
@@ -21,59 +17,45 @@ Inv-loop nodes₀ bounds₀ clauses₀ asked₀ bytes held₀ i₀ nodes bounds 
 abbrev μ-loop : tie.MeasureT-loop
 μ-loop nodes₀ bounds₀ clauses₀ asked₀ bytes held₀ i₀ nodes bounds clauses asked held i = length bytes - i
 
--- src/lib.rt:140:5
 loop-holds : tie.Need-loop-holds Inv-loop μ-loop
 loop-holds c = (omega arith, c .before .before .before .before .pre, refl)
 
--- src/lib.rt:141:20
 shared-slice-read-byte : tie.Need-shared-slice-read-byte Inv-loop μ-loop
 shared-slice-read-byte c = search needs
 
--- src/lib.rt:142:9
 add-i : tie.Need-add-i Inv-loop μ-loop
 add-i c = search needs
 
--- src/lib.rt:144:13
 close-line-requires : tie.Need-close-line-requires Inv-loop μ-loop
 close-line-requires c κs = c .before .before .before .before .before .before .before .loop .inv .1
 
--- src/lib.rt:140:5
 loop-less : tie.Need-loop-less Inv-loop μ-loop
 loop-less c = omega (arith, c .before .before .before .before .before .before .before .before .before .before .before .before .before .before .loop-test)
 
--- src/lib.rt:140:5
 loop-again : tie.Need-loop-again Inv-loop μ-loop
 loop-again c = (omega (arith, c .before .before .before .before .before .before .before .before .before .before .before .before .before .before .loop-test), record { nodes = search needs; bounds = search needs; clauses = search needs; asked = search needs }, line-more _ _ _ _ (c .before .before .before .before .before .before .before .before .before .before .before .before .before .before .loop-test .taken) (c .before .before .before .before .before .before .before .before .before .before .before .before .before .before .before .loop .inv .2) _ (c .before .before .before .before .before .before .before .before .before .before .before .before .if1 .taken) (c .before .before .before .before .before .before .before .close-line .ensures))
 
--- src/lib.rt:147:17
 scan-byte-requires : tie.Need-scan-byte-requires Inv-loop μ-loop
 scan-byte-requires c κs = search needs
 
--- src/lib.rt:140:5
 loop-less-2 : tie.Need-loop-less-2 Inv-loop μ-loop
 loop-less-2 c = search needs
 
--- src/lib.rt:140:5
 loop-again-2 : tie.Need-loop-again-2 Inv-loop μ-loop
 loop-again-2 c = (omega arith, c .before .before .before .before .before .loop .inv .1, other-more _ _ _ _ (c .before .before .before .before .loop-test .taken) (c .before .before .before .before .before .loop .inv .2) _ (c .before .before .if1 .left) (c .scan-byte .ensures))
 
--- src/lib.rt:127:1
 same-length : tie.Need-same-length Inv-loop μ-loop
 same-length c = search needs
 
--- src/lib.rt:127:1
 same-length-2 : tie.Need-same-length-2 Inv-loop μ-loop
 same-length-2 c = search needs
 
--- src/lib.rt:127:1
 same-length-3 : tie.Need-same-length-3 Inv-loop μ-loop
 same-length-3 c = search needs
 
--- src/lib.rt:127:1
 same-length-4 : tie.Need-same-length-4 Inv-loop μ-loop
 same-length-4 c = search needs
 
--- src/lib.rt:127:1
 returns : tie.Need-returns Inv-loop μ-loop
 returns c = block-all _ _ _ _ (c .loop-test .left) (c .before .loop .inv .2)
 

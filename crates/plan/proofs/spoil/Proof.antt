@@ -5,18 +5,15 @@ use Rattle.plan.specs.Reading.{Progress, linesAt, spoilt}
 use borrow.Author.Needs.{needs}
 use Rattle.plan.proofs.spoil.Statement.{statement}
 use Rattle.plan.proofs.spoil.Tie as tie
-use Rattle.plan.proofs.spoil.Reads as reads
-use Rattle.plan.proofs.spoil.Lts as lts
-use Rattle.plan.proofs.lines.stopped_at.Reads as stopped-at-reads
 
--- src/lib.rt:117:9
 stopped-at-requires : tie.Need-stopped-at-requires
 stopped-at-requires c κs = search needs
 
--- src/lib.rt:112:1
 returns : tie.Need-returns
 unfolding spoilt
-returns c = λ nodes bounds clauses asked. ap (λ (p : Progress). folded (linesAt p (c .before .before .before .args .r .line)) (c .before .before .before .args .r .scan) (c .before .before .before .args .r .fresh)) (c .stopped-at .ensures nodes bounds clauses asked)
+returns c =
+    let s = c .before .before .before in
+    λ nodes bounds clauses asked. ap (λ (p : Progress). folded (linesAt p (s .args .r .line)) (s .args .r .scan) (s .args .r .fresh)) (c .stopped-at .ensures nodes bounds clauses asked)
 
 pub spoil-spec : {M : Type 1} → statement M
 spoil-spec = tie.close (tie.spec stopped-at-requires returns)
