@@ -1,16 +1,15 @@
 -- A token that is laid is a piece of what was to be written; each token has at most 64 bytes. Assumes nothing.
-use mathlib.Core.Path.{_≡_, refl, ap, sym, _∙_}
-use mathlib.Core.List.{List, [], _∷_, _++_, append-assoc}
+use mathlib.Core.Path.{_≡_, refl, ap, _∙_}
+use mathlib.Core.List.{List, _++_, append-assoc}
 use Prim.Native.Nat.{ℕ, zero, suc, _+_, _-_, _≤_}
 use native.Mathlib.Omega.{arith}
 use lib.IntN.{ℤ, pos, negsuc}
 use lib.ListN.{length, take, drop, length-append}
-use lib.Seq.{sets, sets-eq, drop-at, length-take-le}
+use lib.Seq.{sets-eq, drop-at, length-take-le}
 use Rattle.model.specs.Limits.{mostFill}
 use Rattle.model.specs.Words.{word}
 use Rattle.model.specs.Signs.{Dir, iff, onlyif}
 use Rattle.model.specs.Machine.{Machine}
-use Rattle.model.specs.Text.{decimal, signedDecimal}
 use Rattle.model.specs.Program.{upperText, lowerText, wordText, answerText, questionText}
 use Rattle.model.specs.Calls.{Enforced, nothing, literal, refused, enforceUpper, enforceLower}
 use Rattle.text.specs.Laying.{Bytes, bytesAt, layBytes}

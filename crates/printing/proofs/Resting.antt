@@ -1,6 +1,6 @@
 -- What is still to be written, and how much is left, from one part to the next. Assumes nothing.
 use mathlib.Core.Path.{_≡_, refl, ap, ap₂, sym, _∙_}
-use mathlib.Core.Bool.{Bool, true, false}
+use mathlib.Core.Bool.{true}
 use mathlib.Core.List.{List, [], _∷_, _++_, append-assoc, append-nil}
 use Prim.Native.Nat.{ℕ, zero, suc, _+_, _-_, _≤_, _<_, min}
 use native.Mathlib.Numerals.{add-one}
@@ -12,15 +12,12 @@ use Rattle.model.specs.Signs.{Dir, iff, onlyif}
 use Rattle.model.specs.Bounds.{run}
 use Rattle.model.specs.Machine.{Machine}
 use Rattle.model.specs.Calls.{enforceDamaged, enforceUpper, enforceLower}
-use Rattle.model.specs.Program.{Asked, headText, wordText, clausesText, questionText, questionsText, answersText, outcomeText, stopped, going}
+use Rattle.model.specs.Program.{Asked, headText, wordText, clausesText, questionText, questionsText, answersText, outcomeText, going}
 use Rattle.party.specs.Read.{machineOf, partyOf}
-use Rattle.plan.specs.Read.{askedAt, askedFrom, goingOf, stageOf, outcome}
+use Rattle.plan.specs.Read.{askedAt, askedFrom, goingOf}
 use Rattle.plan.specs.declared.Plan.{Plan}
-use Rattle.plan.specs.declared.Stage.{Stage}
-use Rattle.plan.specs.declared.Stage.the-variants.{First, Going, Stopped}
-use Rattle.printing.specs.declared.Part.{Part}
 use Rattle.printing.specs.declared.Part.the-variants.{Head, Words, Answers, Refused, Done}
-use Rattle.printing.specs.Rest.{headLine, refusalLine, machineIn, answersFrom, restText, leftAnswers, left, finishedAt}
+use Rattle.printing.specs.Rest.{headLine, refusalLine, machineIn, answersFrom, restText, leftAnswers, left}
 
 -- no text depends on the nodes
 module _ (p : Plan) (nodes bounds : List ℕ) (clauses : List ℤ) where
@@ -83,7 +80,7 @@ left-line asked j d n k e = rw e (omega arith)
 left-question : (asked : List ℕ) (j d n k : ℕ) → n ≡ suc k → d < askedAt asked j .many → leftAnswers asked j (suc d) n < leftAnswers asked j d n
 left-question asked j d n k e h = rw e (omega arith)
 
-left-some : (asked : List ℕ) (j d n : ℕ) → 0 < leftAnswers asked j d n
+pub left-some : (asked : List ℕ) (j d n : ℕ) → 0 < leftAnswers asked j d n
 left-some asked j d zero = omega arith
 left-some asked j d (suc n) = omega arith
 

@@ -1,14 +1,9 @@
--- Each turn, on each way that the code takes; the tests of the loop; and the pieces of a writing. Assumes nothing.
-use mathlib.Core.Path.{_≡_, refl, ap, sym, _∙_, subst}
-use mathlib.Core.Bool.{Bool, true, false, not, _&&_}
-use mathlib.Core.List.{List, [], _∷_, _++_}
-use mathlib.Core.Logic.{_⊎_, inl, inr}
+-- A turn of the writing, on each way that the code takes. Assumes nothing.
+use mathlib.Core.Path.{_≡_, refl, sym, _∙_}
+use mathlib.Core.Bool.{Bool, true, false}
+use mathlib.Core.List.{List}
 use Prim.Native.Nat.{ℕ, zero, suc, _+_, _*_, _-_, _/_, _≤_, _<_, min}
 use native.Mathlib.Omega.{arith}
-use borrow.Author.Tests.{le-leb, lt-leb}
-use denote.Enum.Declared.{tagOf}
-use types.Run.{OneOf}
-use lib.Dec.{leb}
 use lib.IntN.{ℤ, pos}
 use lib.ListN.{length, getD, List·getD-eq-default}
 use mir.Syntax.{w32}
@@ -24,8 +19,7 @@ use Rattle.plan.specs.declared.Plan.{Plan}
 use Rattle.text.specs.Laying.{Bytes, bytesAt, layBytes}
 use Rattle.printing.specs.declared.Part.{Part}
 use Rattle.printing.specs.declared.Part.the-variants.{Head, Words, Answers, Refused, Done}
-use Rattle.printing.specs.Rest.{headLine, refusalLine, machineIn, restText, left, finishedAt, readyAt, Turn, Put, Piece}
-use Rattle.printing.proofs.Part.{the-type}
+use Rattle.printing.specs.Rest.{headLine, refusalLine, machineIn, restText, finishedAt, Turn}
 use Rattle.printing.proofs.Putting.{head-short, refusal-short, word-short, question-short, put-none, put-laid}
 use Rattle.printing.proofs.Resting.{head-rest, head-left, refused-rest, refused-left, word-rest, word-left, words-rest, words-left, damaged-rest, end-rest, end-left, line-rest, line-left, question-rest, question-left}
 
@@ -95,7 +89,7 @@ module _ (p : Plan) (bounds : List ℕ) (clauses : List ℤ) (asked : List ℕ) 
     pub head-turn : bytesAt at′ out′ ≡ layBytes (headLine (p .next) (p .state .party .clauses)) (bytesAt at out) → Turn p bounds clauses asked Head (Words 0) at at′ out out′
     head-turn e = record {
       put = put-laid (rest Head) (rest (Words 0)) at out room (headLine (p .next) (p .state .party .clauses)) (head-short (p .next) (p .state .party .clauses)) places at′ out′ e
-      (head-rest p bounds clauses asked);
+          (head-rest p bounds clauses asked);
       falls = head-left p bounds clauses asked;
     }
 
@@ -110,7 +104,7 @@ module _ (p : Plan) (bounds : List ℕ) (clauses : List ℤ) (asked : List ℕ) 
         → Turn p bounds clauses asked (Words i) (Words (i + 1)) at at′ out out′
     word-turn i h k f e = record {
       put = put-laid (rest (Words i)) (rest (Words (i + 1))) at out room (wordText (getD clauses i (pos 0))) (word-short (getD clauses i (pos 0))) places at′ out′
-      (rw (back f) at e) (word-rest p bounds clauses asked i h k);
+          (rw (back f) at e) (word-rest p bounds clauses asked i h k);
       falls = word-left p bounds clauses asked i h;
     }
 
@@ -123,6 +117,6 @@ module _ (p : Plan) (bounds : List ℕ) (clauses : List ℤ) (asked : List ℕ) 
         let l : d < askedAt asked j .many = rw q at k in
         record {
           put = put-laid (rest (Answers j d)) (rest (Answers j (d + 1))) at out room (questionText m (askedAt asked j .dir) v) (question-short m (askedAt asked j .dir) v) places at′ out′
-          (rw s at e) (question-rest p bounds clauses asked j d h l);
+              (rw s at e) (question-rest p bounds clauses asked j d h l);
           falls = question-left p bounds clauses asked j d h l;
         }

@@ -9,7 +9,7 @@ use lib.ListN.{length, take, drop}
 use Rattle.model.specs.Bounds.{run}
 use Rattle.model.specs.Machine.{Machine}
 use Rattle.model.specs.Text.{newline, space, decimal}
-use Rattle.model.specs.Program.{Asked, stopped, headerText, refusedText, lineText, headText, clausesText, questionsText, answersText, outcomeText}
+use Rattle.model.specs.Program.{stopped, headerText, refusedText, lineText, headText, clausesText, questionsText, answersText, outcomeText}
 use Rattle.party.specs.Read.{machineOf}
 use Rattle.plan.specs.Read.{askedAt, askedFrom}
 use Rattle.plan.specs.declared.Plan.{Plan}

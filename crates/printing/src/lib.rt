@@ -73,7 +73,14 @@ fn ready(part: Part, at: usize, room: usize) -> bool
 }
 
 // The next piece, from the buffer's first byte on: every token that surely fits.
-pub fn write_piece(plan: Plan, part: Part, bounds: &[u32], clauses: &[i32], asked: &[u32], out: &mut [u8]) -> Wrote
+pub fn write_piece(
+    plan: Plan,
+    part: Part,
+    bounds: &[u32],
+    clauses: &[i32],
+    asked: &[u32],
+    out: &mut [u8],
+) -> Wrote
     ensures { λ r. ⌜ Piece plan (now (bounds .entry)) (now (clauses .entry)) (now (asked .entry)) part (r .part) (r .len) (now (out .entry)) (now (out .exit)) ⌝ }
 {
     let damaged = enforce_damaged(plan.state.party, bounds);

@@ -88,7 +88,13 @@ fn put_pair(out: &mut [u8], at: usize, value: u64, word: i32) -> usize
 }
 
 // The line of the answer for an upper bound, over a state and a table that are not damaged; nothing where there is no literal.
-pub(crate) fn put_upper_answer(out: &mut [u8], at: usize, party: Party, bounds: &[u32], value: u64) -> usize
+pub(crate) fn put_upper_answer(
+    out: &mut [u8],
+    at: usize,
+    party: Party,
+    bounds: &[u32],
+    value: u64,
+) -> usize
     requires { ⌜ at + 64 ≤ length (now out) ⌝ }
     requires { ⌜ enforceDamaged (partyOf party) (now bounds) ≡ false ⌝ }
     ensures { λ r. ⌜ bytesAt r (now (out .exit)) ≡ layBytes (answerText upperText value (enforceUpper value (partyOf party) (now (bounds .entry)))) (bytesAt at (now (out .entry))) ⌝ }
@@ -102,7 +108,13 @@ pub(crate) fn put_upper_answer(out: &mut [u8], at: usize, party: Party, bounds: 
 }
 
 // The line of the answer for a lower bound.
-pub(crate) fn put_lower_answer(out: &mut [u8], at: usize, party: Party, bounds: &[u32], value: u64) -> usize
+pub(crate) fn put_lower_answer(
+    out: &mut [u8],
+    at: usize,
+    party: Party,
+    bounds: &[u32],
+    value: u64,
+) -> usize
     requires { ⌜ at + 64 ≤ length (now out) ⌝ }
     requires { ⌜ enforceDamaged (partyOf party) (now bounds) ≡ false ⌝ }
     ensures { λ r. ⌜ bytesAt r (now (out .exit)) ≡ layBytes (answerText lowerText value (enforceLower value (partyOf party) (now (bounds .entry)))) (bytesAt at (now (out .entry))) ⌝ }

@@ -37,25 +37,50 @@ fn asked_word(asked: &[u32], line: usize, k: usize) -> u32
 }
 
 // The next word of the clauses, or on to the answers.
-fn word_turn(plan: Plan, i: usize, bounds: &[u32], clauses: &[i32], asked: &[u32], out: &mut [u8], at: usize) -> Wrote
+fn word_turn(
+    plan: Plan,
+    i: usize,
+    bounds: &[u32],
+    clauses: &[i32],
+    asked: &[u32],
+    out: &mut [u8],
+    at: usize,
+) -> Wrote
     requires { ⌜ at + 64 ≤ length (now out) ⌝ }
     ensures { λ r. ⌜ Turn plan (now (bounds .entry)) (now (clauses .entry)) (now (asked .entry)) (Words i) (r .part) at (r .len) (now (out .entry)) (now (out .exit)) ⌝ }
 {
     let fill = plan.state.shared.fill;
     if fill <= i {
-        return Wrote { part: Part::Answers { line: 0, done: 0 }, len: at };
+        return Wrote {
+            part: Part::Answers { line: 0, done: 0 },
+            len: at,
+        };
     }
     if clauses.len() <= i {
-        return Wrote { part: Part::Answers { line: 0, done: 0 }, len: at };
+        return Wrote {
+            part: Part::Answers { line: 0, done: 0 },
+            len: at,
+        };
     }
     let word = clauses[i];
     let len = put_word(out, at, word);
     let next = i + 1;
-    Wrote { part: Part::Words(next), len }
+    Wrote {
+        part: Part::Words(next),
+        len,
+    }
 }
 
 // The answer to one question of an asked line.
-fn question(plan: Plan, line: usize, value: u64, bounds: &[u32], asked: &[u32], out: &mut [u8], at: usize) -> usize
+fn question(
+    plan: Plan,
+    line: usize,
+    value: u64,
+    bounds: &[u32],
+    asked: &[u32],
+    out: &mut [u8],
+    at: usize,
+) -> usize
     requires { ⌜ at + 64 ≤ length (now out) ⌝ }
     requires { ⌜ enforceDamaged (partyOf (plan .state .party)) (now bounds) ≡ false ⌝ }
     ensures { λ r. ⌜ ((ws : List ℤ) → bytesAt r (now (out .exit)) ≡ layBytes (questionText (machineIn plan (now (bounds .entry)) ws) (askedAt (now (asked .entry)) line .dir) value) (bytesAt at (now (out .entry)))) ⌝ }
@@ -69,30 +94,64 @@ fn question(plan: Plan, line: usize, value: u64, bounds: &[u32], asked: &[u32], 
 }
 
 // The next question of the asked lines, or on to the next line, or to the end.
-fn answer_turn(plan: Plan, damaged: bool, line: usize, done: u64, bounds: &[u32], clauses: &[i32], asked: &[u32], out: &mut [u8], at: usize) -> Wrote
+fn answer_turn(
+    plan: Plan,
+    damaged: bool,
+    line: usize,
+    done: u64,
+    bounds: &[u32],
+    clauses: &[i32],
+    asked: &[u32],
+    out: &mut [u8],
+    at: usize,
+) -> Wrote
     requires { ⌜ at + 64 ≤ length (now out) ⌝ }
     requires { ⌜ damaged ≡ enforceDamaged (partyOf (plan .state .party)) (now bounds) ⌝ }
     ensures { λ r. ⌜ Turn plan (now (bounds .entry)) (now (clauses .entry)) (now (asked .entry)) (Answers line done) (r .part) at (r .len) (now (out .entry)) (now (out .exit)) ⌝ }
 {
     if damaged {
-        return Wrote { part: Part::Done, len: at };
+        return Wrote {
+            part: Part::Done,
+            len: at,
+        };
     }
     if plan.asked <= line {
-        return Wrote { part: Part::Done, len: at };
+        return Wrote {
+            part: Part::Done,
+            len: at,
+        };
     }
     let many = asked_word(asked, line, 2) as u64;
     if many <= done {
         let next = line + 1;
-        return Wrote { part: Part::Answers { line: next, done: 0 }, len: at };
+        return Wrote {
+            part: Part::Answers {
+                line: next,
+                done: 0,
+            },
+            len: at,
+        };
     }
     let value = asked_word(asked, line, 1) as u64 + done;
     let len = question(plan, line, value, bounds, asked, out, at);
     let more = done + 1;
-    Wrote { part: Part::Answers { line, done: more }, len }
+    Wrote {
+        part: Part::Answers { line, done: more },
+        len,
+    }
 }
 
 // What is next, at each part.
-pub(crate) fn turn(plan: Plan, damaged: bool, part: Part, bounds: &[u32], clauses: &[i32], asked: &[u32], out: &mut [u8], at: usize) -> Wrote
+pub(crate) fn turn(
+    plan: Plan,
+    damaged: bool,
+    part: Part,
+    bounds: &[u32],
+    clauses: &[i32],
+    asked: &[u32],
+    out: &mut [u8],
+    at: usize,
+) -> Wrote
     requires { ⌜ at + 64 ≤ length (now out) ⌝ }
     requires { ⌜ damaged ≡ enforceDamaged (partyOf (plan .state .party)) (now bounds) ⌝ }
     requires { ⌜ finishedAt part ≡ false ⌝ }
@@ -101,7 +160,10 @@ pub(crate) fn turn(plan: Plan, damaged: bool, part: Part, bounds: &[u32], clause
     match part {
         Part::Head => {
             let len = put_head(out, at, plan.next, plan.state.party.clauses);
-            return Wrote { part: Part::Words(0), len };
+            return Wrote {
+                part: Part::Words(0),
+                len,
+            };
         }
         Part::Words(i) => {
             return word_turn(plan, i, bounds, clauses, asked, out, at);
@@ -111,10 +173,16 @@ pub(crate) fn turn(plan: Plan, damaged: bool, part: Part, bounds: &[u32], clause
         }
         Part::Refused { number, line } => {
             let len = put_refusal(out, at, number, line);
-            return Wrote { part: Part::Done, len };
+            return Wrote {
+                part: Part::Done,
+                len,
+            };
         }
         Part::Done => {
-            return Wrote { part: Part::Done, len: at };
+            return Wrote {
+                part: Part::Done,
+                len: at,
+            };
         }
     }
 }

@@ -1,19 +1,15 @@
+-- `finished` says whether the writing stands at its end. Assumes nothing.
 use borrow.Author.Needs.{needs}
-use Rattle.printing.proofs.Pieces.{is-done, not-done}
+use Rattle.printing.proofs.Looping.{is-done, not-done}
 use Rattle.printing.proofs.finished.Statement.{statement}
 use Rattle.printing.proofs.finished.Tie as tie
-use Rattle.printing.proofs.finished.Reads as reads
-use Rattle.printing.proofs.finished.Lts as lts
 
--- src/lib.rt:57:23
 enum-told : tie.Need-enum-told
 enum-told c = search needs
 
--- src/lib.rt:53:1
 returns : tie.Need-returns
 returns c = is-done _ (c .enum-told .given .1)
 
--- src/lib.rt:53:1
 returns-2 : tie.Need-returns-2
 returns-2 c = not-done _ (c .match .keys2)
 

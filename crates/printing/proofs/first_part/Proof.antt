@@ -1,31 +1,24 @@
+-- `first_part` begins with the head line, or with the line of the refusal. Assumes nothing.
 use borrow.Author.Needs.{needs}
 use Rattle.printing.proofs.Pieces.{first-none, first-going, first-stopped}
 use Rattle.printing.proofs.first_part.Statement.{statement}
 use Rattle.printing.proofs.first_part.Tie as tie
-use Rattle.printing.proofs.first_part.Reads as reads
-use Rattle.printing.proofs.first_part.Lts as lts
 
--- src/lib.rt:41:13
 enum-told : tie.Need-enum-told
 enum-told c = search needs
 
--- src/lib.rt:41:13
 returns : tie.Need-returns
 returns c = λ nodes bounds asked clauses. first-none _ nodes bounds asked clauses (c .enum-told .given .1)
 
--- src/lib.rt:44:13
 enum-told-2 : tie.Need-enum-told-2
 enum-told-2 c = search needs
 
--- src/lib.rt:44:13
 returns-2 : tie.Need-returns-2
 returns-2 c = λ nodes bounds asked clauses. first-going _ nodes bounds asked clauses (c .enum-told2 .given .1)
 
--- src/lib.rt:46:26
 enum-known-stage : tie.Need-enum-known-stage
 enum-known-stage c = search needs
 
--- src/lib.rt:47:13
 returns-3 : tie.Need-returns-3
 returns-3 c = λ nodes bounds asked clauses. first-stopped _ nodes bounds asked clauses _ _ (c .before .stage .given .1)
 

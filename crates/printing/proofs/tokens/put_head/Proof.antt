@@ -1,56 +1,40 @@
+-- `put_head` lays the head line as one batch. Assumes nothing.
 use borrow.Author.Needs.{needs}
 use native.Mathlib.Omega.{arith}
 use Rattle.printing.proofs.Laid.{head-laid}
 use Rattle.printing.proofs.tokens.put_head.Statement.{statement}
 use Rattle.printing.proofs.tokens.put_head.Tie as tie
-use Rattle.printing.proofs.tokens.put_head.Reads as reads
-use Rattle.printing.proofs.tokens.put_head.Lts as lts
-use Rattle.printing.proofs.tokens.last_before.Reads as last-before-reads
-use Rattle.text.proofs.fixed.put_header.Reads as put-header-reads
-use Rattle.text.proofs.put_bytes.Reads as put-bytes-reads
-use Rattle.text.proofs.put_decimal.Reads as put-decimal-reads
 
--- src/tokens.rt:47:9
 last-before-requires : tie.Need-last-before-requires
 last-before-requires c κs = search needs
 
--- src/tokens.rt:48:9
 put-header-requires : tie.Need-put-header-requires
 put-header-requires c κs = search needs
 
--- src/tokens.rt:49:33
 cast-put-decimal : tie.Need-cast-put-decimal
 cast-put-decimal c = search needs
 
--- src/tokens.rt:49:9
 put-decimal-requires : tie.Need-put-decimal-requires
 put-decimal-requires c κs = search needs
 
--- src/tokens.rt:50:31
 slice-aggregate-put-bytes : tie.Need-slice-aggregate-put-bytes
 slice-aggregate-put-bytes c = search needs
 
--- src/tokens.rt:50:9
 put-bytes-requires : tie.Need-put-bytes-requires
 put-bytes-requires c κs = search needs
 
--- src/tokens.rt:51:9
 put-decimal-requires-2 : tie.Need-put-decimal-requires-2
 put-decimal-requires-2 c κs = search needs
 
--- src/tokens.rt:52:23
 slice-aggregate-put-bytes-2 : tie.Need-slice-aggregate-put-bytes-2
 slice-aggregate-put-bytes-2 c = search needs
 
--- src/tokens.rt:52:5
 put-bytes-requires-2 : tie.Need-put-bytes-requires-2
 put-bytes-requires-2 c κs = search needs
 
--- src/tokens.rt:43:1
 same-length : tie.Need-same-length
 same-length c = search needs
 
--- src/tokens.rt:43:1
 returns : tie.Need-returns
 returns c =
     let e = c .before .before in

@@ -1,3 +1,4 @@
+-- `put_lower_answer` lays the line of the answer for a lower bound. Assumes nothing.
 use borrow.Author.Needs.{needs}
 use native.Mathlib.Omega.{arith}
 use Rattle.model.specs.Program.{lowerText}
@@ -5,40 +6,28 @@ use Rattle.printing.proofs.Batches.{room-after}
 use Rattle.printing.proofs.Answered.{lower-none, lower-line}
 use Rattle.printing.proofs.tokens.put_lower_answer.Statement.{statement}
 use Rattle.printing.proofs.tokens.put_lower_answer.Tie as tie
-use Rattle.printing.proofs.tokens.put_lower_answer.Reads as reads
-use Rattle.printing.proofs.tokens.put_lower_answer.Lts as lts
-use Rattle.answers.proofs.answer_lb.Reads as answer-lb-reads
-use Rattle.printing.proofs.tokens.put_pair.Reads as put-pair-reads
-use Rattle.text.proofs.fixed.put_lower.Reads as put-lower-reads
 
--- src/tokens.rt:100:9
 answer-lb-requires : tie.Need-answer-lb-requires
 answer-lb-requires c κs = search needs
 
--- src/tokens.rt:101:27
 enum-known-answer : tie.Need-enum-known-answer
 enum-known-answer c = search needs
 
--- src/tokens.rt:102:9
 returns : tie.Need-returns
 returns c =
     let s = c .before .before .before .before in
     lower-none _ (omega arith) (omega arith) _ _ _ (s .pre .1) (c .before .answer-lb .result) (c .before .answer-lb .ensures) (c .match .keys2)
 
--- src/tokens.rt:104:9
 put-lower-requires : tie.Need-put-lower-requires
 put-lower-requires c κs = search needs
 
--- src/tokens.rt:105:5
 put-pair-requires : tie.Need-put-pair-requires
 put-pair-requires c κs =
     room-after lowerText _ _ (omega arith) (omega arith) (omega arith) (c .before .before .before .put-lower .ensures)
 
--- src/tokens.rt:95:1
 same-length : tie.Need-same-length
 same-length c = search needs
 
--- src/tokens.rt:95:1
 returns-2 : tie.Need-returns-2
 returns-2 c =
     let b = c .before .before in

@@ -1,44 +1,31 @@
+-- `put_refusal` lays the line of a refusal as one batch. Assumes nothing.
 use borrow.Author.Needs.{needs}
 use native.Mathlib.Omega.{arith}
 use Rattle.printing.proofs.Laid.{refusal-laid}
 use Rattle.printing.proofs.tokens.put_refusal.Statement.{statement}
 use Rattle.printing.proofs.tokens.put_refusal.Tie as tie
-use Rattle.printing.proofs.tokens.put_refusal.Reads as reads
-use Rattle.printing.proofs.tokens.put_refusal.Lts as lts
-use Rattle.text.proofs.fixed.put_line.Reads as put-line-reads
-use Rattle.text.proofs.fixed.put_refused.Reads as put-refused-reads
-use Rattle.text.proofs.put_bytes.Reads as put-bytes-reads
-use Rattle.text.proofs.put_decimal.Reads as put-decimal-reads
 
--- src/tokens.rt:50:9
 put-refused-requires : tie.Need-put-refused-requires
 put-refused-requires c κs = search needs
 
--- src/tokens.rt:51:9
 put-decimal-requires : tie.Need-put-decimal-requires
 put-decimal-requires c κs = search needs
 
--- src/tokens.rt:52:9
 put-line-requires : tie.Need-put-line-requires
 put-line-requires c κs = search needs
 
--- src/tokens.rt:53:9
 put-decimal-requires-2 : tie.Need-put-decimal-requires-2
 put-decimal-requires-2 c κs = search needs
 
--- src/tokens.rt:54:23
 slice-aggregate-put-bytes : tie.Need-slice-aggregate-put-bytes
 slice-aggregate-put-bytes c = search needs
 
--- src/tokens.rt:54:5
 put-bytes-requires : tie.Need-put-bytes-requires
 put-bytes-requires c κs = search needs
 
--- src/tokens.rt:46:1
 same-length : tie.Need-same-length
 same-length c = search needs
 
--- src/tokens.rt:46:1
 returns : tie.Need-returns
 returns c =
     let e = c .before .before in

@@ -1,3 +1,4 @@
+-- `put_upper_answer` lays the line of the answer for an upper bound. Assumes nothing.
 use borrow.Author.Needs.{needs}
 use native.Mathlib.Omega.{arith}
 use Rattle.model.specs.Program.{upperText}
@@ -5,40 +6,28 @@ use Rattle.printing.proofs.Batches.{room-after}
 use Rattle.printing.proofs.Answered.{upper-none, upper-line}
 use Rattle.printing.proofs.tokens.put_upper_answer.Statement.{statement}
 use Rattle.printing.proofs.tokens.put_upper_answer.Tie as tie
-use Rattle.printing.proofs.tokens.put_upper_answer.Reads as reads
-use Rattle.printing.proofs.tokens.put_upper_answer.Lts as lts
-use Rattle.answers.proofs.answer_ub.Reads as answer-ub-reads
-use Rattle.printing.proofs.tokens.put_pair.Reads as put-pair-reads
-use Rattle.text.proofs.fixed.put_upper.Reads as put-upper-reads
 
--- src/tokens.rt:86:9
 answer-ub-requires : tie.Need-answer-ub-requires
 answer-ub-requires c κs = search needs
 
--- src/tokens.rt:87:27
 enum-known-answer : tie.Need-enum-known-answer
 enum-known-answer c = search needs
 
--- src/tokens.rt:88:9
 returns : tie.Need-returns
 returns c =
     let s = c .before .before .before .before in
     upper-none _ (omega arith) (omega arith) _ _ _ (s .pre .1) (c .before .answer-ub .result) (c .before .answer-ub .ensures) (c .match .keys2)
 
--- src/tokens.rt:90:9
 put-upper-requires : tie.Need-put-upper-requires
 put-upper-requires c κs = search needs
 
--- src/tokens.rt:91:5
 put-pair-requires : tie.Need-put-pair-requires
 put-pair-requires c κs =
     room-after upperText _ _ (omega arith) (omega arith) (omega arith) (c .before .before .before .put-upper .ensures)
 
--- src/tokens.rt:81:1
 same-length : tie.Need-same-length
 same-length c = search needs
 
--- src/tokens.rt:81:1
 returns-2 : tie.Need-returns-2
 returns-2 c =
     let b = c .before .before in

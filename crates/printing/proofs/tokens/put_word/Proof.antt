@@ -1,49 +1,37 @@
+-- `put_word` lays a literal and a space, or the end of a clause. Assumes nothing.
 use borrow.Author.Needs.{needs}
 use native.Mathlib.Omega.{arith}
 use Rattle.printing.proofs.Laid.{zero-laid, word-laid}
 use Rattle.printing.proofs.tokens.put_word.Statement.{statement}
 use Rattle.printing.proofs.tokens.put_word.Tie as tie
-use Rattle.printing.proofs.tokens.put_word.Reads as reads
-use Rattle.printing.proofs.tokens.put_word.Lts as lts
-use Rattle.text.proofs.put_bytes.Reads as put-bytes-reads
-use Rattle.text.proofs.put_signed.Reads as put-signed-reads
 
--- src/tokens.rt:63:35
 slice-aggregate-put-bytes : tie.Need-slice-aggregate-put-bytes
 slice-aggregate-put-bytes c = search needs
 
--- src/tokens.rt:63:9
 put-bytes-requires : tie.Need-put-bytes-requires
 put-bytes-requires c κs = search needs
 
--- src/tokens.rt:63:9
 same-length : tie.Need-same-length
 same-length c = search needs
 
--- src/tokens.rt:63:9
 returns : tie.Need-returns
 returns c =
     let a = c .before .before in
     let w = a .before .before .before in
     zero-laid _ (omega arith) (omega arith) _ (w .before .before .fits .word) (w .if1 .taken) (a .put-bytes .ensures)
 
--- src/tokens.rt:65:9
 put-signed-requires : tie.Need-put-signed-requires
 put-signed-requires c κs = search needs
 
--- src/tokens.rt:66:23
 slice-aggregate-put-bytes-2 : tie.Need-slice-aggregate-put-bytes-2
 slice-aggregate-put-bytes-2 c = search needs
 
--- src/tokens.rt:66:5
 put-bytes-requires-2 : tie.Need-put-bytes-requires-2
 put-bytes-requires-2 c κs = search needs
 
--- src/tokens.rt:58:1
 same-length-2 : tie.Need-same-length-2
 same-length-2 c = search needs
 
--- src/tokens.rt:58:1
 returns-2 : tie.Need-returns-2
 returns-2 c =
     let b = c .before .before in

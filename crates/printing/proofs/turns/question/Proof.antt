@@ -1,26 +1,18 @@
+-- `question` lays the answer to a question, by the direction of its line. Assumes nothing.
 use borrow.Author.Needs.{needs}
 use Rattle.printing.proofs.Turning.{asks-upper, asks-lower}
 use Rattle.printing.proofs.turns.question.Statement.{statement}
 use Rattle.printing.proofs.turns.question.Tie as tie
-use Rattle.printing.proofs.turns.question.Reads as reads
-use Rattle.printing.proofs.turns.question.Lts as lts
-use Rattle.printing.proofs.tokens.put_lower_answer.Reads as put-lower-answer-reads
-use Rattle.printing.proofs.tokens.put_upper_answer.Reads as put-upper-answer-reads
-use Rattle.printing.proofs.turns.asked_word.Reads as asked-word-reads
 
--- src/turns.rt:64:9
 asked-word-requires : tie.Need-asked-word-requires
 asked-word-requires c κs = search needs
 
--- src/turns.rt:66:9
 put-upper-answer-requires : tie.Need-put-upper-answer-requires
 put-upper-answer-requires c κs = search needs
 
--- src/turns.rt:66:9
 same-length : tie.Need-same-length
 same-length c = search needs
 
--- src/turns.rt:66:9
 returns : tie.Need-returns
 returns c = λ ws.
     let a = c .before .before in
@@ -28,15 +20,12 @@ returns c = λ ws.
     let s = t .before .before .before .before .before .before .args in
     asks-upper (s .plan) (s .bounds .now) ws (s .asked .now) (s .line) _ (s .value) (t .before .asked-word .ensures) _ _ (t .if1 .taken) (a .put-upper-answer .ensures)
 
--- src/turns.rt:68:5
 put-lower-answer-requires : tie.Need-put-lower-answer-requires
 put-lower-answer-requires c κs = search needs
 
--- src/turns.rt:58:1
 same-length-2 : tie.Need-same-length-2
 same-length-2 c = search needs
 
--- src/turns.rt:58:1
 returns-2 : tie.Need-returns-2
 returns-2 c = λ ws.
     let a = c .before .before in

@@ -1,41 +1,31 @@
+-- `word_turn` is a turn at the words of the clauses. Assumes nothing.
 use borrow.Author.Needs.{needs}
 use native.Mathlib.Omega.{arith}
 use Rattle.printing.proofs.Turning.{words-turn, word-turn}
 use Rattle.printing.proofs.turns.word_turn.Statement.{statement}
 use Rattle.printing.proofs.turns.word_turn.Tie as tie
-use Rattle.printing.proofs.turns.word_turn.Reads as reads
-use Rattle.printing.proofs.turns.word_turn.Lts as lts
-use Rattle.printing.proofs.tokens.put_word.Reads as put-word-reads
 
--- src/turns.rt:46:9
 returns : tie.Need-returns
 returns c = words-turn _ _ _ _ _ _ (omega arith) _ (omega arith)
 
--- src/turns.rt:49:9
 returns-2 : tie.Need-returns-2
 returns-2 c = words-turn _ _ _ _ _ _ (omega arith) _ (omega arith)
 
--- src/turns.rt:51:16
 mul-word : tie.Need-mul-word
 mul-word c = search needs
 
--- src/turns.rt:51:16
 shared-slice-copy-out-word : tie.Need-shared-slice-copy-out-word
 shared-slice-copy-out-word c = search needs
 
--- src/turns.rt:52:9
 put-word-requires : tie.Need-put-word-requires
 put-word-requires c κs = search needs
 
--- src/turns.rt:53:16
 add-next : tie.Need-add-next
 add-next c = search needs
 
--- src/turns.rt:40:1
 same-length : tie.Need-same-length
 same-length c = search needs
 
--- src/turns.rt:40:1
 returns-3 : tie.Need-returns-3
 returns-3 c =
     let a = c .before .before in
