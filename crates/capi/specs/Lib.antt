@@ -1,0 +1,2 @@
+-- What the contracts cite: the state as words (Words).
+pub mod Words
