@@ -1,3 +1,4 @@
 -- Laws that this crate's proofs share.
 mod Copying
 mod Reading
+mod Settling

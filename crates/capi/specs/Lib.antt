@@ -1,2 +1,3 @@
--- What the contracts cite: the state as words (Words).
+-- What the contracts cite: the state as words (Words), the encoder's operations over lent words (Lent).
 pub mod Words
+pub mod Lent

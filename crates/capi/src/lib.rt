@@ -1,3 +1,4 @@
 // The interface for C: every function is exported on numbers and slices, and answers document 01's reply number. A state is lent as 318
-// words, the source as one.
+// words (state.rt), the source as one.
+mod encoding;
 mod state;

@@ -12,6 +12,9 @@ use party::State;
 // The words of a state.
 pub const STATE_WORDS: usize = 318;
 
+// The reply to a state, or to anything of a fixed length, that has another.
+pub const DAMAGED: u32 = 12;
+
 // The words of a slice, from a place of another on.
 fn put(to: &mut [u32], start: usize, words: &[u32])
     requires { ⌜ start + length (now words) ≤ length (now to) ⌝ }
