@@ -2,3 +2,4 @@
 mod Copying
 mod Reading
 mod Settling
+mod Pairs

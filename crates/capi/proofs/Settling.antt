@@ -69,3 +69,15 @@ module _ (f : machine.Machine → calls.Replied) (st so ns bs : List ℕ) (cs : 
 
   pub call-accepted : n ≡ 0 → answered n (lent st′ (set so 0 next) ns′ bs′ cs′) ≡ called f (lent st so ns bs cs)
   call-accepted z = call-ends true (eq-eqb n 0 z)
+
+-- a call that leaves the source as it is
+module _ (f : machine.Machine → calls.Replied) (st ns bs : List ℕ) (cs : List ℤ) (h : length st ≡ 318) (s : State) (is : s ≡ stateAt st)
+    (r : Reply) (s′ : State) (next : ℕ) (ns′ bs′ : List ℕ) (cs′ : List ℤ)
+    (did : calls.replied r (machineOf s′ next ns′ bs′ cs′) ≡ f (machineOf s next ns bs cs)) (n : ℕ) (st′ : List ℕ)
+    (ended : settled n st′ ≡ settle r (partyOf (s′ .party)) (sharedOf (s′ .shared)) st) where
+  pub call-keeps : answered n (lent st′ (next ∷ []) ns′ bs′ cs′) ≡ called f (lent st (next ∷ []) ns bs cs)
+  call-keeps = go (eqb n 0) refl
+    where
+      go : (b : Bool) → eqb n 0 ≡ b → answered n (lent st′ (next ∷ []) ns′ bs′ cs′) ≡ called f (lent st (next ∷ []) ns bs cs)
+      go true e = call-ends f st (next ∷ []) ns bs cs h refl s is r s′ next ns′ bs′ cs′ did n st′ ended true e
+      go false e = call-ends f st (next ∷ []) ns bs cs h refl s is r s′ next ns′ bs′ cs′ did n st′ ended false e

@@ -6,8 +6,9 @@ use Prim.Native.Nat.{ℕ}
 use lib.Dec.{eqb}
 use lib.IntN.{ℤ}
 use lib.ListN.{length, getD, set}
-use Rattle.model.specs.Replies.{Reply, number}
+use Rattle.model.specs.Replies.{Reply, number, Accepted, BadTerm, SumTooLarge, PendingFull, NotEncoded, Unsat, Equality, TooManyBounds, TooWide, NoNodes, NoVariables, NoRoom, Damaged, BadStart, BadConstraint}
 use Rattle.model.specs.Machine as machine
+use Rattle.model.specs.Bounds.{Range}
 use Rattle.model.specs.Calls as calls
 use Rattle.party.specs.Read.{machineOf, partyOf, sharedOf}
 use Rattle.capi.specs.Words.{stateAt, wordsOf}
@@ -15,6 +16,24 @@ use Rattle.capi.specs.Words.{stateAt, wordsOf}
 -- "Every refusal leaves state, source and all lent memory unchanged": the new words with the reply 0, and else the lent ones
 abbrev pub kept : ℕ → List ℕ → List ℕ → List ℕ
 kept n new old = cond (eqb n 0) new old
+
+-- BadTerm "gives the place of the first, from 0": it is told at the place i, and with that reply alone
+unfoldable pub placeAfter : ℕ → Reply → List ℕ → List ℕ
+placeAfter i (BadTerm k) l = set l i k
+placeAfter i Accepted l = l
+placeAfter i SumTooLarge l = l
+placeAfter i PendingFull l = l
+placeAfter i NotEncoded l = l
+placeAfter i Unsat l = l
+placeAfter i Equality l = l
+placeAfter i TooManyBounds l = l
+placeAfter i TooWide l = l
+placeAfter i NoNodes l = l
+placeAfter i NoVariables l = l
+placeAfter i NoRoom l = l
+placeAfter i Damaged l = l
+placeAfter i BadStart l = l
+placeAfter i BadConstraint l = l
 
 -- a reply's number beside the state's words after the call
 pub record Settled : Type 0 where
@@ -32,6 +51,10 @@ unfoldable pub startWords : ℕ → List ℕ → Settled
 startWords F l =
     let r : calls.Started = calls.start F in
     cond (eqb (length l) 318) (settle (r .reply) (r .party) (r .shared) l) (settled 12 l)
+
+-- from (included) and to (not)
+abbrev pub range : ℕ → ℕ → Range
+range low end = record { from = low; to = end }
 
 -- all that an operation is lent: the state's words, the source's one word, and the three tables
 pub record Lent : Type 0 where

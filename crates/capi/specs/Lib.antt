@@ -1,3 +1,4 @@
--- What the contracts cite: the state as words (Words), the encoder's operations over lent words (Lent).
+-- What the contracts cite: the state as words (Words), the encoder's operations over lent words (Lent), adding (Adds).
 pub mod Words
 pub mod Lent
+pub mod Adds

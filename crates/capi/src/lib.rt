@@ -1,4 +1,5 @@
 // The interface for C: every function is exported on numbers and slices, and answers document 01's reply number. A state is lent as 318
 // words (state.rt), the source as one.
+mod adding;
 mod encoding;
 mod state;
