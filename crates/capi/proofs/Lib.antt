@@ -3,3 +3,5 @@ mod Copying
 mod Reading
 mod Settling
 mod Pairs
+mod Telling
+mod Questions

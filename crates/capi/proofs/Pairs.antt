@@ -40,3 +40,9 @@ module _ (ws : List ℕ) (ls : List ℤ) (i : ℕ) (a b : Adding) (c : Adding) w
   pub pairs-end : length ws ≤ i → stepAll a (pairs (drop i ws) (drop i ls)) i ≡ c → a ≡ c
   unfolding stepAll
   pairs-end h inv = rw (drop-of-length-le ws h) at inv
+
+-- the answer to the run over all
+pub pairs-added : (ws : List ℕ) (ls : List ℤ) (s : State) (a : Adding) (r : Answer)
+    → ((ts : List Term) → a ≡ stepAll (beginOf s) ts 0 → r ≡ addedTo (map termOf ts) s) → a ≡ stepAll (beginOf s) (pairs ws ls) 0
+    → r ≡ addedTo (termsOf ws ls) s
+pairs-added ws ls s a r f e = f (pairs ws ls) e ∙ ap (λ (ts : List logic.Term). addedTo ts s) (pairs-terms ws ls)

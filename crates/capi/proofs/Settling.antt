@@ -10,11 +10,13 @@ use borrow.Author.Tests.{eq-eqb, ne-eqb}
 use Rattle.model.specs.Replies.{Reply, number}
 use Rattle.model.specs.Machine as machine
 use Rattle.model.specs.Calls as calls
-use Rattle.party.specs.Read.{machineOf, partyOf, sharedOf, startedOf}
+use Rattle.model.specs.Reifications.{termsOf}
+use Rattle.party.specs.Read.{machineOf, partyOf, sharedOf, startedOf, Answer, addedTo}
 use Rattle.party.specs.declared.State.{State}
 use Rattle.party.specs.declared.Started.{Started}
 use Rattle.capi.specs.Words.{stateAt, wordsOf}
-use Rattle.capi.specs.Lent.{Settled, settled, settle, startWords, Lent, lent, answered, machineIn, leaves, called}
+use Rattle.capi.specs.Lent.{Settled, settled, settle, startWords, placeAfter, Lent, lent, answered, machineIn, leaves, called}
+use Rattle.capi.specs.Adds.{adds, addsTo, addWords}
 
 module _ (r : Reply) (p : machine.Party) (s : machine.Shared) (l : List ℕ) (n : ℕ) (e : n ≡ number r) where
   pub settle-refused : (n ≡ 0 → ⊥) → settled n l ≡ settle r p s l
@@ -81,3 +83,27 @@ module _ (f : machine.Machine → calls.Replied) (st ns bs : List ℕ) (cs : Lis
       go : (b : Bool) → eqb n 0 ≡ b → answered n (lent st′ (next ∷ []) ns′ bs′ cs′) ≡ called f (lent st (next ∷ []) ns bs cs)
       go true e = call-ends f st (next ∷ []) ns bs cs h refl s is r s′ next ns′ bs′ cs′ did n st′ ended true e
       go false e = call-ends f st (next ∷ []) ns bs cs h refl s is r s′ next ns′ bs′ cs′ did n st′ ended false e
+
+-- adding
+module _ (ws : List ℕ) (ls : List ℤ) (l p : List ℕ) where
+  pub adds-wrong-state : (length l ≡ 318 → ⊥) → adds 12 l p ≡ addWords ws ls l p
+  unfolding addWords
+  adds-wrong-state h = rw (ne-eqb (length l) 318 h)
+
+  module _ (h : length l ≡ 318) where
+    pub adds-wrong-place : (length p ≡ 1 → ⊥) → adds 12 l p ≡ addWords ws ls l p
+    unfolding addWords
+    adds-wrong-place k = rw (eq-eqb (length l) 318 h, ne-eqb (length p) 1 k)
+
+    module _ (k : length p ≡ 1) where
+      pub adds-wrong-lists : (length ws ≡ length ls → ⊥) → adds 12 l p ≡ addWords ws ls l p
+      unfolding addWords
+      adds-wrong-lists m = rw (eq-eqb (length l) 318 h, eq-eqb (length p) 1 k, ne-eqb (length ws) (length ls) m)
+
+      pub adds-done : length ws ≡ length ls → (s : State) → s ≡ stateAt l → (r : Answer) → r ≡ addedTo (termsOf ws ls) s
+          → (n : ℕ) (l′ p′ : List ℕ) → settled n l′ ≡ settle (r .reply) (r .party) (r .shared) l → p′ ≡ placeAfter 0 (r .reply) p
+          → adds n l′ p′ ≡ addWords ws ls l p
+      unfolding addWords settle addsTo
+      adds-done m s is r did n l′ p′ e q =
+          rw (eq-eqb (length l) 318 h, eq-eqb (length p) 1 k, eq-eqb (length ws) (length ls) m, ← is, ← did)
+          (ap₂ (λ (x : Settled) (y : List ℕ). adds (x .reply) (x .state) y) e q)

@@ -2,3 +2,4 @@
 pub mod Words
 pub mod Lent
 pub mod Adds
+pub mod Asks

@@ -1,28 +1,23 @@
+-- With a bad term its place is told, and nothing else. Assumes nothing.
 use borrow.Author.Needs.{needs}
+use Rattle.capi.proofs.Telling.{told-bad, told-none}
 use Rattle.capi.proofs.adding.tell_place.Statement.{statement}
 use Rattle.capi.proofs.adding.tell_place.Tie as tie
-use Rattle.capi.proofs.adding.tell_place.Reads as reads
-use Rattle.capi.proofs.adding.tell_place.Lts as lts
 
--- src/adding.rt:40:27
 enum-known-reply : tie.Need-enum-known-reply
 enum-known-reply c = search needs
 
--- src/adding.rt:41:9
 slice-write-place : tie.Need-slice-write-place
 slice-write-place c = search needs
 
--- src/adding.rt:36:1
 same-length : tie.Need-same-length
 same-length c = search needs
 
--- src/adding.rt:36:1
 returns : tie.Need-returns
-returns c = ?
+returns c = told-bad _ _ _ (c .before .reply .given .1)
 
--- src/adding.rt:36:1
 returns-2 : tie.Need-returns-2
-returns-2 c = ?
+returns-2 c = told-none _ (c .before .args .reply) (c .match .keys2)
 
 pub tell-place-spec : {M : Type 1} → statement M
 tell-place-spec =
