@@ -5,3 +5,5 @@ mod Settling
 mod Pairs
 mod Telling
 mod Questions
+mod Implications
+mod Reifications

@@ -3,4 +3,6 @@
 mod adding;
 mod asking;
 mod encoding;
+mod implying;
+mod reifying;
 mod state;
