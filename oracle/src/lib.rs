@@ -35,13 +35,13 @@
 #![allow(clippy::duplicate_mod)]
 
 pub mod differ;
+pub mod encoder;
 pub mod encodings;
 pub mod instances;
-pub mod oracle;
 pub mod text;
 pub mod types;
 
-pub use crate::oracle::{caught, Oracle, Report};
+pub use crate::encoder::{caught, Oracle, Report};
 pub use crate::text::{Adder, Build, Constraint, Direction, Linear, Order};
 
 /// Shim of rustsat's error; the harness's collector never runs out of memory.

@@ -10,9 +10,9 @@ use super::reading::{
     asked_down, asked_up, bad_constraint, bad_term, hash, is_literal, literal_alone, no_constraint, records_after, sum,
     unsatisfiable, GREATEST, MOST_BOUNDS, MOST_NODES, MOST_OUTPUTS, MOST_PENDING, MOST_TOTAL,
 };
+use crate::encoder::caught;
 use crate::encodings::{CollectClauses, EnforceError, Flat};
 use crate::instances::Source;
-use crate::oracle::caught;
 use crate::text::{Adder, Build, Constraint, Direction, Enforced, Linear, Order};
 
 /// What an answer rests on.
@@ -241,8 +241,8 @@ impl Machine {
         if pending.len() > MOST_PENDING {
             return Ok(paper("r 3"));
         }
-        // the first terms go in by `FromIterator`, those after by `Extend`
-        if party.main.total() == 0 {
+        // mended, the first terms go in by `FromIterator`, those after by `Extend`
+        if party.main.total() == 0 && self.build == Build::Mended {
             party.main.collect(terms);
         } else {
             party.main.add(terms);

@@ -1,6 +1,6 @@
 //! A failing history made small: calls dropped, terms dropped, numbers lowered, until none of these fails any more.
 
-use super::call::{parse, Call};
+use super::call::{parse, Call, Way};
 use super::judged;
 use super::play::Player;
 use super::Turn;
@@ -91,10 +91,14 @@ fn thinned(calls: &[Call]) -> Vec<Vec<Call>> {
     })
 }
 
-/// Two lists of terms as one, or a literal's weights added in its list.
+/// One direction instead of both; two lists of terms as one, or a literal's weights added in its list.
 fn joined(calls: &[Call]) -> Vec<Vec<Call>> {
     let mut candidates = Vec::new();
     for (place, call) in calls.iter().enumerate() {
+        if let Call::Encode(Way::Both, from, to) = call {
+            let ways = [Way::Up, Way::Down].map(|way| Call::Encode(way, *from, *to));
+            candidates.extend(ways.map(|one| [&calls[..place], &[one], &calls[place + 1..]].concat()));
+        }
         let Call::Add(terms) = call else { continue };
         if let Some(Call::Add(more)) = calls.get(place + 1) {
             let both = Call::Add([&terms[..], more].concat());
