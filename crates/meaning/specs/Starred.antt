@@ -14,7 +14,7 @@ use Rattle.model.specs.Calls.{add, encode, encodeUp, encodeDown, encodeBoth, re
 use Rattle.model.specs.Reifications.{Order, upper, lower, ordered, Way, litImplies, impliesLit, accepted, Reified, reified, reifiedTo}
 use Rattle.model.specs.Program.{planText}
 use Rattle.meaning.specs.Histories.{Call, adding, up, down, both, ranges, reserve, over, move, after, afterAll, fresh}
-use Rattle.meaning.specs.Bytes.{bytes}
+use Rattle.model.specs.Bytes.{bytes}
 
 -- a row of any type
 pub record Case : Type 1 where
