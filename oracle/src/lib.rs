@@ -34,17 +34,21 @@
 // each copy of the text has the same view behind it
 #![allow(clippy::duplicate_mod)]
 
+pub mod differ;
+pub mod encoder;
 pub mod encodings;
 pub mod instances;
-pub mod oracle;
 pub mod text;
 pub mod types;
 
-pub use crate::oracle::{caught, Oracle, Report};
+pub use crate::encoder::{caught, Oracle, Report};
 pub use crate::text::{Adder, Build, Constraint, Direction, Linear, Order};
 
 /// Shim of rustsat's error; the harness's collector never runs out of memory.
 #[derive(Clone, Copy, Debug, PartialEq, Eq)]
 pub enum OutOfMemory {}
+
+/// Which text was compiled: the name and an FNV-1a hash of each file.
+pub const TEXT: &str = env!("ORACLE_TEXT");
 
 include!(concat!(env!("OUT_DIR"), "/builds.rs"));
