@@ -108,8 +108,7 @@ pub extern "C" fn ankelaza_reify(
     let w = way_by(direction);
     let b = bound_by(kind, bound);
     let lit = Literal { word: literal };
-    let r =
-        reifications::reify_lists(w, lit, b, weights, literals, made_weights, made_literals);
+    let r = reifications::reify_lists(w, lit, b, weights, literals, made_weights, made_literals);
     tell_reified(r, told)
 }
 

@@ -27,7 +27,7 @@ begin-requires : tie.Need-begin-requires Inv-loop μ-loop
 begin-requires c κs = search needs
 
 loop-holds : tie.Need-loop-holds Inv-loop μ-loop
-loop-holds c = 
+loop-holds c =
     let s = c .before .before .args in
     (omega arith, ap (λ (a : Adding). stepAll a (pairs (s .weights .now) (s .literals .now)) 0) (c .begin .ensures))
 
@@ -53,22 +53,23 @@ loop-less : tie.Need-loop-less Inv-loop μ-loop
 loop-less c = search needs
 
 loop-again : tie.Need-loop-again Inv-loop μ-loop
-loop-again c = 
+loop-again c =
     let l = c .before .before .before .before in
     let s = c .before .before .before .before .before .before .before .args in
     let i = l .loop .i in
     let h : i < length (s .weights .now) = c .before .before .before .loop-test .taken in
-    let k : i < length (s .literals .now) = omega arith in
-    (omega arith,
-    pairs-step (s .weights .now) (s .literals .now) i (l .loop .a) _ _ h k
-    (c .step .ensures ∙ ap (λ (z : ℤ). stepOf (l .loop .a) (pairOf (getD (s .weights .now) i 0) z) i) (back (record { sfits = c .before .t13 .given })))
-    (l .loop .inv .1))
+    let k : i < length (s .literals .now) = omega arith in (
+      omega arith,
+      pairs-step (s .weights .now) (s .literals .now) i (l .loop .a) _ _ h k
+          (c .step .ensures ∙ ap (λ (z : ℤ). stepOf (l .loop .a) (pairOf (getD (s .weights .now) i 0) z) i) (back (record { sfits = c .before .t13 .given })))
+          (l .loop .inv .1),
+    )
 
 finish-requires : tie.Need-finish-requires Inv-loop μ-loop
 finish-requires c κs = search needs
 
 returns : tie.Need-returns Inv-loop μ-loop
-returns c = 
+returns c =
     let s = c .before .before .before .before .before .args in
     pairs-added (s .weights .now) (s .literals .now) (s .state) (c .before .before .loop .a) _ (c .finish .ensures)
     (pairs-end (s .weights .now) (s .literals .now) (c .before .before .loop .i) (c .before .before .loop .a) (c .before .before .loop .a) _ (c .before .loop-test .left) (c .before .before .loop .inv .1))

@@ -24,7 +24,7 @@ same-length : tie.Need-same-length
 same-length c = search needs
 
 returns-3 : tie.Need-returns-3
-returns-3 c = 
+returns-3 c =
     let s = c .before .before .before .before .before .before .before .before .before .before .before .before .args in
     λ next ws. explain-done (s .literal) (s .state .now) (s .nodes .now) (s .bounds .now) (s .told .now) next ws (c .before .before .before .before .before .before .before .if1 .left) (c .before .before .before .before .before .before .if2 .left) (c .before .before .before .before .before .read-state .result) (c .before .before .before .before .before .read-state .ensures) _ _ (back (c .before .before .before .before .before .before .before .before .before .before .before .before .fits .literal)) (c .before .before .before .before .explain .ensures next ws) _ (c .before .before .tell-meant .ensures)
 

@@ -30,7 +30,7 @@ same-length-2 : tie.Need-same-length-2
 same-length-2 c = search needs
 
 returns-3 : tie.Need-returns-3
-returns-3 c = 
+returns-3 c =
     let s = c .before .before .before .before .before .before .before .before .before .before .before .before .before .before .before .before .before .before .before .args in
     call-refused reserveCall (s .state .now) (s .source .now) (s .nodes .now) (s .bounds .now) (s .clauses .now) (c .before .before .before .before .before .before .before .before .before .before .before .before .before .before .if1 .left) (c .before .before .before .before .before .before .before .before .before .before .before .before .before .if2 .left) (c .before .before .before .before .before .before .before .before .before .before .before .read-state .result) (c .before .before .before .before .before .before .before .before .before .before .before .read-state .ensures) _ (c .before .before .before .before .before .before .before .before .run-reserve .result .state) (c .before .before .before .before .before .before .before .before .run-reserve .result .next) _ _ _ (c .before .before .before .before .before .before .before .before .run-reserve .ensures) _ _ (c .before .before .before .settle .ensures) (c .if3 .taken)
 
@@ -47,7 +47,7 @@ same-length-5 : tie.Need-same-length-5
 same-length-5 c = search needs
 
 returns-4 : tie.Need-returns-4
-returns-4 c = 
+returns-4 c =
     let s = c .before .before .before .before .before .before .before .before .before .before .before .before .before .before .before .before .before .before .before .args in
     call-accepted reserveCall (s .state .now) (s .source .now) (s .nodes .now) (s .bounds .now) (s .clauses .now) (c .before .before .before .before .before .before .before .before .before .before .before .before .before .before .if1 .left) (c .before .before .before .before .before .before .before .before .before .before .before .before .before .if2 .left) (c .before .before .before .before .before .before .before .before .before .before .before .read-state .result) (c .before .before .before .before .before .before .before .before .before .before .before .read-state .ensures) _ (c .before .before .before .before .before .before .before .before .run-reserve .result .state) (c .before .before .before .before .before .before .before .before .run-reserve .result .next) _ _ _ (c .before .before .before .before .before .before .before .before .run-reserve .ensures) _ _ (c .before .before .before .settle .ensures) (c .if3 .left)
 

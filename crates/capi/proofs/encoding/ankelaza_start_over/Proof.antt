@@ -29,7 +29,7 @@ same-length-3 : tie.Need-same-length-3
 same-length-3 c = search needs
 
 returns-2 : tie.Need-returns-2
-returns-2 c = 
+returns-2 c =
     let s = c .before .before .before .before .before .before .before .before .before .before .before .before .before .before .before .before .before .before .args in
     λ next ws. call-keeps startOver (s .state .now) (s .nodes .now) (s .bounds .now) ws (c .before .before .before .before .before .before .before .before .before .before .before .before .before .before .if1 .left) (c .before .before .before .before .before .before .before .before .before .before .before .before .read-state .result) (c .before .before .before .before .before .before .before .before .before .before .before .before .read-state .ensures) _ (c .before .before .before .before .before .before .before .before .before .start-over .result .state) next _ _ ws (c .before .before .before .before .before .before .before .before .before .start-over .ensures next ws) _ _ (c .before .before .settle .ensures)
 

@@ -36,7 +36,7 @@ same-length-4 : tie.Need-same-length-4
 same-length-4 c = search needs
 
 returns-3 : tie.Need-returns-3
-returns-3 c = 
+returns-3 c =
     let s = c .before .before .before .before .before .before .before .before .before .before .before .before .before .before .before .before .before .before .before .before .before .before .before .before .args in
     call-refused (asked (s .ask)) (s .state .now) (s .source .now) (s .nodes .now) (s .bounds .now) (s .clauses .now) (c .before .before .before .before .before .before .before .before .before .before .before .before .before .before .before .before .before .before .before .if1 .left) (c .before .before .before .before .before .before .before .before .before .before .before .before .before .before .before .before .before .before .if2 .left) (c .before .before .before .before .before .before .before .before .before .before .before .before .before .before .before .before .read-state .result) (c .before .before .before .before .before .before .before .before .before .before .before .before .before .before .before .before .read-state .ensures) _ (c .before .before .before .before .before .before .before .before .before .before .before .run-encode .result .state) (c .before .before .before .before .before .before .before .before .before .before .before .run-encode .result .next) _ _ _ (c .before .before .before .before .before .before .before .before .before .before .before .run-encode .ensures) _ _ (c .before .before .before .settle .ensures) (c .if3 .taken)
 
@@ -59,7 +59,7 @@ same-length-9 : tie.Need-same-length-9
 same-length-9 c = search needs
 
 returns-4 : tie.Need-returns-4
-returns-4 c = 
+returns-4 c =
     let s = c .before .before .before .before .before .before .before .before .before .before .before .before .before .before .before .before .before .before .before .before .before .before .before .before .args in
     call-accepted (asked (s .ask)) (s .state .now) (s .source .now) (s .nodes .now) (s .bounds .now) (s .clauses .now) (c .before .before .before .before .before .before .before .before .before .before .before .before .before .before .before .before .before .before .before .if1 .left) (c .before .before .before .before .before .before .before .before .before .before .before .before .before .before .before .before .before .before .if2 .left) (c .before .before .before .before .before .before .before .before .before .before .before .before .before .before .before .before .read-state .result) (c .before .before .before .before .before .before .before .before .before .before .before .before .before .before .before .before .read-state .ensures) _ (c .before .before .before .before .before .before .before .before .before .before .before .run-encode .result .state) (c .before .before .before .before .before .before .before .before .before .before .before .run-encode .result .next) _ _ _ (c .before .before .before .before .before .before .before .before .before .before .before .run-encode .ensures) _ _ (c .before .before .before .settle .ensures) (c .if3 .left)
 

@@ -42,7 +42,7 @@ same-length-2 : tie.Need-same-length-2
 same-length-2 c = search needs
 
 returns-3 : tie.Need-returns-3
-returns-3 c = 
+returns-3 c =
     let s = c .before .before .before .before .before .before .before .before .before .before .before .before .before .before .before .before .args in
     imply-done (s .kind) (s .left .now) (s .right .now) (s .clauses .now) (s .told .now) (c .before .before .before .before .before .before .before .before .before .before .before .before .before .before .if1 .left) _ (c .before .before .before .before .before .before .before .before .before .before .before .before .before .formed .ensures) (c .before .before .before .before .before .before .before .before .before .before .before .before .if2 .left) (c .before .before .before .before .before .before .before .before .before .before .side-by .result) (c .before .before .before .before .before .before .before .before .side-by2 .result) _ _ (c .before .before .before .before .before .before .before .before .before .before .before .one-of .ensures) (c .before .before .before .before .before .before .before .before .before .before .side-by .ensures) (c .before .before .before .before .before .before .before .before .before .one-of2 .ensures) (c .before .before .before .before .before .before .before .before .side-by2 .ensures) (c .before .before .before .before .before .imply .result) _ (c .before .before .before .before .before .imply .ensures) _ _ (c .before .before .tell-implied .ensures)
 
