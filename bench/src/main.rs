@@ -90,17 +90,25 @@ fn time(row: &Row) -> Timed {
     });
     let time = best(|| run_ours(black_box(&mut ours), row));
     let bare = (!words.is_empty()).then(|| {
+        let lengths: Vec<usize> =
+            words.split(|w| *w == 0).map(|clause| clause.len() + 1).take(clauses as usize).collect();
         let mut out = vec![0; words.len()];
-        best(|| bare_loop(black_box(&words), black_box(&mut out)))
+        best(|| bare_loop(black_box(&words), black_box(&lengths), black_box(&mut out)))
     });
     Timed { clauses, words: words.len(), ours: time, rust, bare }
 }
 
-/// Word after word, as plain as can be.
+/// The same words, clause after clause, each of a length that is known beforehand.
 #[inline(never)]
-fn bare_loop(words: &[i32], out: &mut [i32]) {
-    for (place, word) in out.iter_mut().zip(words) {
-        *place = *word;
+fn bare_loop(words: &[i32], lengths: &[usize], out: &mut [i32]) {
+    let (mut from, mut rest) = (words, out);
+    for n in lengths {
+        let (clause, more) = from.split_at(*n);
+        let (room, left) = rest.split_at_mut(*n);
+        for (place, word) in room.iter_mut().zip(clause) {
+            *place = *word;
+        }
+        (from, rest) = (more, left);
     }
 }
 
