@@ -2,6 +2,7 @@
 // any size: the law of reading (proofs/Texts: `whole-text`, `cut-anywhere`) says that a text of fewer than 2^64 bytes, however it is
 // cut, gives the model's outcome of its lines. Every function that others call is total: tables of other lengths are refusal 12.
 mod lines;
+pub mod room;
 
 ghost use mathlib.Core.Path.{_≡_};
 ghost use mathlib.Core.List.{List};
