@@ -217,9 +217,9 @@ dead k x y [] = refl
 dead k x y (b ∷ bs) = ap (λ (s : Scan). result (scanAll s bs)) (dead-step k b x y) ∙ dead k x y bs
 
 -- a text has a first part
-parted : (bs : List ℕ) (P : List (List ℕ) → Type 0) → ((p : List ℕ) (ps : List (List ℕ)) → P (p ∷ ps)) → P (split space bs)
-parted [] P f = f [] []
-parted (b ∷ bs) P f = go (eqb b space) (split space bs)
+pub parted : (s : ℕ) (bs : List ℕ) (P : List (List ℕ) → Type 0) → ((p : List ℕ) (ps : List (List ℕ)) → P (p ∷ ps)) → P (split s bs)
+parted s [] P f = f [] []
+parted s (b ∷ bs) P f = go (eqb b s) (split s bs)
   where
     go : (t : Bool) (ps : List (List ℕ)) → P (cond t ([] ∷ ps) (before b ps))
     go true ps = f [] ps
@@ -238,8 +238,8 @@ second-field k x y (b ∷ bs) = go (eqb b space) (second-field k x (byteOf y b) 
     go : (t : Bool) → result (scanAll (scanAt k 3 x (byteOf y b)) bs) ≡ inSecond k x (byteOf y b) (split space bs)
         → result (scanAll (cond t (scanAt k 4 x y) (scanAt k 3 x (byteOf y b))) bs)
         ≡ inSecond k x y (cond t ([] ∷ split space bs) (before b (split space bs)))
-    go true rest = dead k x y bs ∙ parted bs (λ ps. noLine ≡ inSecond k x y ([] ∷ ps)) (λ p ps. refl)
-    go false rest = rest ∙ parted bs (λ ps. inSecond k x (byteOf y b) ps ≡ inSecond k x y (before b ps)) over
+    go true rest = dead k x y bs ∙ parted space bs (λ ps. noLine ≡ inSecond k x y ([] ∷ ps)) (λ p ps. refl)
+    go false rest = rest ∙ parted space bs (λ ps. inSecond k x (byteOf y b) ps ≡ inSecond k x y (before b ps)) over
 
 first-field : (k : ℕ) (x y : Number) (bs : List ℕ) → result (scanAll (scanAt k 2 x y) bs) ≡ inFirst k x y (split space bs)
 unfolding scanOf
@@ -253,8 +253,8 @@ first-field k x y (b ∷ bs) = go (eqb b space) (first-field k (byteOf x b) y bs
     go : (t : Bool) → result (scanAll (scanAt k 2 (byteOf x b) y) bs) ≡ inFirst k (byteOf x b) y (split space bs)
         → result (scanAll (cond t (scanAt k 3 x y) (scanAt k 2 (byteOf x b) y)) bs)
         ≡ inFirst k x y (cond t ([] ∷ split space bs) (before b (split space bs)))
-    go true rest = second-field k x y bs ∙ parted bs (λ ps. inSecond k x y ps ≡ inFirst k x y ([] ∷ ps)) (λ p ps. refl)
-    go false rest = rest ∙ parted bs (λ ps. inFirst k (byteOf x b) y ps ≡ inFirst k x y (before b ps)) over
+    go true rest = second-field k x y bs ∙ parted space bs (λ ps. inSecond k x y ps ≡ inFirst k x y ([] ∷ ps)) (λ p ps. refl)
+    go false rest = rest ∙ parted space bs (λ ps. inFirst k (byteOf x b) y ps ≡ inFirst k x y (before b ps)) over
 
 letter-field : (k : ℕ) (bs : List ℕ) → result (scanAll (scanAt k 1 noneYet noneYet) bs) ≡ pastLetter k (split space bs)
 unfolding scanOf lineOfScan
@@ -268,8 +268,8 @@ letter-field k (b ∷ bs) = go (eqb b space)
     go : (t : Bool)
         → result (scanAll (cond t (scanAt k 2 noneYet noneYet) (scanAt k 4 noneYet noneYet)) bs)
         ≡ pastLetter k (cond t ([] ∷ split space bs) (before b (split space bs)))
-    go true = first-field k noneYet noneYet bs ∙ parted bs (λ ps. inFirst k noneYet noneYet ps ≡ pastLetter k ([] ∷ ps)) (λ p ps. refl)
-    go false = dead k noneYet noneYet bs ∙ parted bs (λ ps. noLine ≡ pastLetter k (before b ps)) over
+    go true = first-field k noneYet noneYet bs ∙ parted space bs (λ ps. inFirst k noneYet noneYet ps ≡ pastLetter k ([] ∷ ps)) (λ p ps. refl)
+    go false = dead k noneYet noneYet bs ∙ parted space bs (λ ps. noLine ≡ pastLetter k (before b ps)) over
 
 -- the whole line, by its fields
 two-fields : (k : ℕ) (p : List ℕ) → result (scanAt k 2 (bytesOf noneYet p) noneYet) ≡ byTwo (k ∷ []) p
