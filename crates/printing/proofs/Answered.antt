@@ -44,7 +44,7 @@ word-back iff (negsuc n) h = ap (λ (m : ℕ). negℤ (pos m)) (mod-eq-of-lt h)
 word-back onlyif (pos n) h = ap pos (mod-eq-of-lt h)
 word-back onlyif (negsuc n) h = ap (λ (m : ℕ). negℤ (pos m)) (mod-eq-of-lt h)
 
-same-word : (δ : Dir) (z : ℤ) (x : calls.Enforced) → calls.literal (litIn δ z) ≡ cut x → word (litIn δ z) ≡ z
+pub same-word : (δ : Dir) (z : ℤ) (x : calls.Enforced) → calls.literal (litIn δ z) ≡ cut x → word (litIn δ z) ≡ z
 same-word δ z calls.nothing e = absurd (let o : _≡_ {A = ℕ} 0 1 = cc in omega arith)
 same-word δ z (calls.literal l) e = let o : litIn δ z ≡ cutLit l = cc in word-back δ z (rw o (cut-small l))
 same-word δ z (calls.refused r) e = absurd (let o : _≡_ {A = ℕ} 0 1 = cc in omega arith)

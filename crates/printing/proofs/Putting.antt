@@ -49,6 +49,29 @@ laid-beyond ds b h k =
     rw (as-stored b k ds h, sets-eq ds (b .bytes) (b .place) h)
     (drop-at (take (b .place) (b .bytes) ++ ds) (drop (b .place + length ds) (b .bytes)) (b .place + length ds) p)
 
+-- a batch that fits
+module _ (rest rest′ : List ℕ) (at : ℕ) (out ds : List ℕ) (fits : at + length ds ≤ length out) (places : length out ≤ mostFill) (at′ : ℕ) (out′ : List ℕ) (e : bytesAt at′ out′ ≡ layBytes ds (bytesAt at out)) where
+  place-of : at′ ≡ at + length ds
+  place-of = ap (λ (b : Bytes). b .place) e ∙ laid-place ds (bytesAt at out) fits places
+
+  length-of : length out′ ≡ length out
+  length-of = ap (λ (b : Bytes). length (b .bytes)) e ∙ laid-length ds (bytesAt at out)
+
+  text-of : take at′ out′ ≡ take at out ++ ds
+  text-of = ap (λ (b : Bytes). take (b .place) (b .bytes)) e ∙ laid-text ds (bytesAt at out) fits places
+
+  beyond-of : drop at′ out′ ≡ drop at′ out
+  beyond-of =
+      rw place-of (ap (λ (b : Bytes). drop (at + length ds) (b .bytes)) e ∙ laid-beyond ds (bytesAt at out) fits places)
+
+  pub put-fitting : ds ++ rest′ ≡ rest → Put rest rest′ at at′ out out′
+  put-fitting q = record {
+    forth = omega (arith, place-of);
+    within = omega (arith, place-of, length-of);
+    text = ap (λ (t : List ℕ). t ++ rest′) text-of ∙ append-assoc (take at out) ds rest′ ∙ ap (λ (r : List ℕ). take at out ++ r) q;
+    beyond = beyond-of;
+  }
+
 module _ (rest rest′ : List ℕ) (at : ℕ) (out : List ℕ) (room : at + 64 ≤ length out) where
   pub put-none : rest′ ≡ rest → Put rest rest′ at at out out
   put-none e = record {
@@ -58,24 +81,5 @@ module _ (rest rest′ : List ℕ) (at : ℕ) (out : List ℕ) (room : at + 64 �
     beyond = refl;
   }
 
-  module _ (ds : List ℕ) (short : length ds ≤ 64) (places : length out ≤ mostFill) (at′ : ℕ) (out′ : List ℕ) (e : bytesAt at′ out′ ≡ layBytes ds (bytesAt at out)) where
-    place-of : at′ ≡ at + length ds
-    place-of = ap (λ (b : Bytes). b .place) e ∙ laid-place ds (bytesAt at out) (omega arith) places
-
-    length-of : length out′ ≡ length out
-    length-of = ap (λ (b : Bytes). length (b .bytes)) e ∙ laid-length ds (bytesAt at out)
-
-    text-of : take at′ out′ ≡ take at out ++ ds
-    text-of = ap (λ (b : Bytes). take (b .place) (b .bytes)) e ∙ laid-text ds (bytesAt at out) (omega arith) places
-
-    beyond-of : drop at′ out′ ≡ drop at′ out
-    beyond-of =
-        rw place-of (ap (λ (b : Bytes). drop (at + length ds) (b .bytes)) e ∙ laid-beyond ds (bytesAt at out) (omega arith) places)
-
-    pub put-laid : ds ++ rest′ ≡ rest → Put rest rest′ at at′ out out′
-    put-laid q = record {
-      forth = omega (arith, place-of);
-      within = omega (arith, place-of, length-of);
-      text = ap (λ (t : List ℕ). t ++ rest′) text-of ∙ append-assoc (take at out) ds rest′ ∙ ap (λ (r : List ℕ). take at out ++ r) q;
-      beyond = beyond-of;
-    }
+  pub put-laid : (ds : List ℕ) → length ds ≤ 64 → length out ≤ mostFill → (at′ : ℕ) (out′ : List ℕ) → bytesAt at′ out′ ≡ layBytes ds (bytesAt at out) → ds ++ rest′ ≡ rest → Put rest rest′ at at′ out out′
+  put-laid ds short places at′ out′ e q = put-fitting rest rest′ at out ds (omega arith) places at′ out′ e q

@@ -1,7 +1,7 @@
 // What the program writes, piece by piece into a buffer of any size. The writing goes by tokens: the head line, a word of a clause,
 // the line of an answer, the line of a refusal. Each has at most 64 bytes, and is put while so many are free.
-mod tokens;
-mod turns;
+pub mod tokens;
+pub mod turns;
 
 ghost use mathlib.Core.Path.{_≡_};
 ghost use mathlib.Core.List.{List};

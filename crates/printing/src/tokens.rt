@@ -30,7 +30,7 @@ const NEWLINE: [u8; 1] = *b"\n";
 const CLAUSE_END: [u8; 2] = *b"0\n";
 
 // The number before the next one; 0 where that is 0.
-fn last_before(next: u32) -> u32
+pub fn last_before(next: u32) -> u32
     ensures { λ r. ⌜ r ≡ next - 1 ⌝ }
 {
     if next == 0 {
@@ -53,7 +53,7 @@ pub(crate) fn put_head(out: &mut [u8], at: usize, next: u32, clauses: usize) -> 
 }
 
 // The only line of a refusal.
-pub(crate) fn put_refusal(out: &mut [u8], at: usize, number: u32, line: u64) -> usize
+pub fn put_refusal(out: &mut [u8], at: usize, number: u32, line: u64) -> usize
     requires { ⌜ at + 64 ≤ length (now out) ⌝ }
     ensures { λ r. ⌜ bytesAt r (now (out .exit)) ≡ layBytes (refusalLine number line) (bytesAt at (now (out .entry))) ⌝ }
 {

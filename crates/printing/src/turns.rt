@@ -22,7 +22,7 @@ use crate::tokens::put_word;
 use plan::Plan;
 
 // A word of the three of an asked line; 0 past the table's end.
-fn asked_word(asked: &[u32], line: usize, k: usize) -> u32
+pub fn asked_word(asked: &[u32], line: usize, k: usize) -> u32
     ensures { λ r. ⌜ r ≡ getD (now (asked .entry)) (3 * line + k) 0 ⌝ }
 {
     let n = asked.len();

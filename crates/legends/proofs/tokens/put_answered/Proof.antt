@@ -1,0 +1,47 @@
+-- `put_answered` lays the line of an answered bound. Assumes nothing.
+use borrow.Author.Needs.{needs}
+use Rattle.literal.proofs.Signed.{back}
+use Rattle.legends.proofs.Rows.{joined, behind}
+use Rattle.legends.proofs.tokens.put_answered.Statement.{statement}
+use Rattle.legends.proofs.tokens.put_answered.Tie as tie
+
+put-named-requires : tie.Need-put-named-requires
+put-named-requires c κs = search needs
+
+slice-aggregate-put-bytes : tie.Need-slice-aggregate-put-bytes
+slice-aggregate-put-bytes c = search needs
+
+put-bytes-requires : tie.Need-put-bytes-requires
+put-bytes-requires c κs = search needs
+
+put-signed-requires : tie.Need-put-signed-requires
+put-signed-requires c κs = search needs
+
+put-named-requires-2 : tie.Need-put-named-requires-2
+put-named-requires-2 c κs = search needs
+
+slice-aggregate-put-bytes-2 : tie.Need-slice-aggregate-put-bytes-2
+slice-aggregate-put-bytes-2 c = search needs
+
+put-bytes-requires-2 : tie.Need-put-bytes-requires-2
+put-bytes-requires-2 c κs = search needs
+
+same-length : tie.Need-same-length
+same-length c = search needs
+
+returns : tie.Need-returns
+returns c = rw (back (c .before .before .before .before .before .before .before .before .before .before .before .before .before .before .before .before .before .before .before .before .before .before .before .before .before .fits .word)) at (behind _ _ _ (joined _ _ _ (behind _ _ _ (behind _ _ _ (c .before .before .before .before .before .before .before .before .before .before .before .before .before .before .before .before .before .before .before .before .put-named .ensures) (c .before .before .before .before .before .before .before .before .before .before .before .before .before .before .before .put-bytes .ensures)) (c .before .before .before .before .before .before .before .before .before .before .before .put-signed .ensures)) (c .before .before .before .before .before .before .before .put-named2 .ensures)) (c .before .before .put-bytes2 .ensures))
+
+pub put-answered-spec : {M : Type 1} → statement M
+put-answered-spec =
+    tie.close
+    (tie.spec
+    put-named-requires
+    slice-aggregate-put-bytes
+    put-bytes-requires
+    put-signed-requires
+    put-named-requires-2
+    slice-aggregate-put-bytes-2
+    put-bytes-requires-2
+    same-length
+    returns)

@@ -1,0 +1,43 @@
+-- `put_more` lays how many terms were not listed. Assumes nothing.
+use borrow.Author.Needs.{needs}
+use Rattle.legends.proofs.Rows.{behind}
+use Rattle.legends.proofs.Choosing.{no-more, some-more}
+use Rattle.legends.proofs.tokens.put_more.Statement.{statement}
+use Rattle.legends.proofs.tokens.put_more.Tie as tie
+
+returns : tie.Need-returns
+returns c = no-more _ _ (c .if1 .taken)
+
+slice-aggregate-put-named : tie.Need-slice-aggregate-put-named
+slice-aggregate-put-named c = search needs
+
+sub-put-named : tie.Need-sub-put-named
+sub-put-named c = search needs
+
+put-named-requires : tie.Need-put-named-requires
+put-named-requires c κs = search needs
+
+slice-aggregate-put-bytes : tie.Need-slice-aggregate-put-bytes
+slice-aggregate-put-bytes c = search needs
+
+put-bytes-requires : tie.Need-put-bytes-requires
+put-bytes-requires c κs = search needs
+
+same-length : tie.Need-same-length
+same-length c = search needs
+
+returns-2 : tie.Need-returns-2
+returns-2 c = some-more _ _ (c .before .before .before .before .before .before .before .before .before .before .if1 .left) (behind _ _ _ (c .before .before .before .before .before .before .before .put-named .ensures) (c .before .before .put-bytes .ensures))
+
+pub put-more-spec : {M : Type 1} → statement M
+put-more-spec =
+    tie.close
+    (tie.spec
+    returns
+    slice-aggregate-put-named
+    sub-put-named
+    put-named-requires
+    slice-aggregate-put-bytes
+    put-bytes-requires
+    same-length
+    returns-2)

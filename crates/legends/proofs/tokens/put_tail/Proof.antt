@@ -1,0 +1,20 @@
+-- `put_tail` lays what stands behind the terms. Assumes nothing.
+use borrow.Author.Needs.{needs}
+use Rattle.legends.proofs.Rows.{joined}
+use Rattle.legends.proofs.tokens.put_tail.Statement.{statement}
+use Rattle.legends.proofs.tokens.put_tail.Tie as tie
+
+put-more-requires : tie.Need-put-more-requires
+put-more-requires c κs = search needs
+
+put-pending-requires : tie.Need-put-pending-requires
+put-pending-requires c κs = search needs
+
+same-length : tie.Need-same-length
+same-length c = search needs
+
+returns : tie.Need-returns
+returns c = joined _ _ _ (c .before .before .before .before .before .before .put-more .ensures) (c .before .before .put-pending .ensures)
+
+pub put-tail-spec : {M : Type 1} → statement M
+put-tail-spec = tie.close (tie.spec put-more-requires put-pending-requires same-length returns)
