@@ -2,10 +2,10 @@
 use mathlib.Core.Path.{_≡_}
 use mathlib.Core.Bool.{Bool}
 use mathlib.Core.List.{List}
-use Prim.Native.Nat.{ℕ, _+_, _*_, _/_, _≤_, min}
+use Prim.Native.Nat.{ℕ, zero, suc, _+_, _*_, _/_, _≤_, min}
 use lib.Dec.{ltb}
 use lib.IntN.{ℤ}
-use lib.ListN.{length}
+use lib.ListN.{length, set}
 use Rattle.model.specs.Limits.{mostBounds}
 use Rattle.model.specs.Machine.{Machine}
 use Rattle.model.specs.Bounds as bounds
@@ -29,6 +29,11 @@ encodedOf r nodes bounds clauses = replied (replyOf (r .reply)) (machineOf (r .s
 
 abbrev pub rangeOf : Range → bounds.Range
 rangeOf r = record { from = r .from; to = r .to }
+
+-- a table whose first n records, each of so many words, have 0 at a place
+abbrev pub cleared : ℕ → ℕ → List ℕ → ℕ → List ℕ
+cleared size place t zero = t
+cleared size place t (suc n) = set (cleared size place t n) (size * n + place) 0
 
 -- what is asked for, each case by the model's operation of its name
 abbrev pub asked : Ask → Machine → Replied

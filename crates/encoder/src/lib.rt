@@ -3,18 +3,18 @@
 ghost use mathlib.Core.Path.{_≡_};
 ghost use mathlib.Core.List.{List, _++_};
 ghost use mathlib.Core.Bool.{_&&_};
-ghost use Prim.Native.Nat.{ℕ, _+_, _*_, _-_, _/_, _≤_, min, max};
+ghost use Prim.Native.Nat.{ℕ, _+_, _*_, _-_, _/_, _≤_, _<_, min, max};
 ghost use lib.Dec.{eqb};
 ghost use lib.IntN.{ℤ};
 ghost use lib.ListN.{length};
 ghost use Rattle.model.specs.Limits.{mostNodes, mostBounds};
-ghost use Rattle.model.specs.Calls.{clearNodes, clearBounds, startOver, reserveCall, encodeValues};
+ghost use Rattle.model.specs.Calls.{startOver, reserveCall, encodeValues};
 ghost use Rattle.model.specs.Bounds.{run, upValues, downValues, valuesFrom, missing};
 ghost use Rattle.model.specs.Machine.{totalOf};
 ghost use Rattle.party.specs.Read.{machineOf, partyOf};
 ghost use Rattle.staging.specs.Sound.{Sound};
 ghost use Rattle.stages.specs.Ask.{valuesOf};
-ghost use Rattle.encoder.specs.Read.{answerOf, encodedOf, rangeOf, upRange, downRange, Cuts, Few, Counts, tooMany, asked};
+ghost use Rattle.encoder.specs.Read.{answerOf, encodedOf, rangeOf, upRange, downRange, Cuts, Few, Counts, tooMany, asked, cleared};
 use party::Reply;
 use party::Shared;
 use party::State;
@@ -34,26 +34,14 @@ pub struct Encoded {
     pub next: u32,
 }
 
-// Clears the marks of the first n nodes.
-fn clear_nodes(table: &mut [u32], n: usize)
-    requires { ⌜ 8 * n ≤ length (now table) ⌝ }
-    ensures { λ _. ⌜ now (table .exit) ≡ clearNodes (now (table .entry)) n ⌝ }
+// Clears the marks of the first n records of a table, each of so many words and with its marks at a place.
+fn clear_marks(table: &mut [u32], n: usize, size: usize, place: usize)
+    requires { ⌜ ((k : ℕ) → k < n → size * k + place < length (now table)) ⌝ }
+    ensures { λ _. ⌜ now (table .exit) ≡ cleared size place (now (table .entry)) n ⌝ }
 {
     let mut i: usize = 0;
     while i < n {
-        table[8 * i + 6] = 0;
-        i += 1;
-    }
-}
-
-// Clears the marks of the first n bound records.
-fn clear_bounds(table: &mut [u32], n: usize)
-    requires { ⌜ 3 * n ≤ length (now table) ⌝ }
-    ensures { λ _. ⌜ now (table .exit) ≡ clearBounds (now (table .entry)) n ⌝ }
-{
-    let mut i: usize = 0;
-    while i < n {
-        table[3 * i + 2] = 0;
+        table[size * i + place] = 0;
         i += 1;
     }
 }
@@ -70,8 +58,8 @@ pub fn start_over(state: State, nodes: &mut [u32], bounds: &mut [u32]) -> Answer
     }
     let mut party = state.party;
     let s = state.shared;
-    clear_nodes(nodes, party.nodes as usize);
-    clear_bounds(bounds, party.bounds as usize);
+    clear_marks(nodes, party.nodes as usize, 8, 6);
+    clear_marks(bounds, party.bounds as usize, 3, 2);
     party.clauses = 0;
     Answer {
         reply: Reply::Accepted,
