@@ -7,20 +7,27 @@ use mathlib.Core.Bool.{Bool, true, false, cond}
 use mathlib.Core.List.{List, [], _∷_, _++_}
 use mathlib.Core.Option.{Option, none, some}
 use Prim.Native.Nat.{ℕ, zero, suc, _+_, _*_, _/_, _%_, _^_, _≤_, _<_}
-use native.Mathlib.Nat.{suc-mul, add-mul}
+use native.Mathlib.Nat.{zero-add, suc-mul, add-mul, mul-le-mul-right}
 use native.Mathlib.Omega.{arith}
 use native.Mathlib.Decide.{ℕ-discrete}
 use borrow.Author.Tests.{eqb-true, ltb-true, ne-eqb, eq-eqb, eqb-false}
 use lib.Dec.{eqb, ltb}
 use lib.ListN.{length, getD, set, length-append, length-set}
 use lib.Seq.{getD-set-same, getD-set-other}
-use Rattle.model.specs.Logic.{Lit, neg}
+use Rattle.model.specs.Logic.{Lit, pL, neg}
 use Rattle.model.specs.Words.{clauseWords, flat}
 use Rattle.model.specs.Signs.{Kind, half, full, Bit, sum, carry, Dir, iff, onlyif, signs, signed, rowAt, rowsAt, gate}
 use Rattle.model.specs.Nodes.{Node, bitAt, markPlace, inTable, nodeAt, var, setVar, marked, setMark}
+use Rattle.model.specs.Buckets.{present}
+use Rattle.model.specs.Compare.{Outs, outLit, outLits, ahead, above, higher, begins, clauseOf, compareRows, comparator}
+use Rattle.model.specs.Machine.{Record, Machine, recordAt, markedIn, find}
+use Rattle.model.specs.Bounds.{Work, recorded, compared, boundAll, emitted, stage, plus1, follow, Clauses}
+use Rattle.model.specs.Calls.{work}
 use Rattle.model.specs.Emit.{Em, gateAt, childDir, children, takeVar, mark, write, node, byKind, emit, emitAll}
 use Rattle.model.proofs.Literals.{by-test}
 use Rattle.model.proofs.Emission.{em, flat-append}
+use Rattle.model.proofs.Frame.{clause-length}
+use Rattle.model.proofs.Bounding.{wk, stages}
 
 -- ---- what is left to spend: w for each bit and direction that a word of marks m lacks, over the first n nodes
 abbrev unless : Bool → ℕ → ℕ
@@ -185,3 +192,143 @@ module _ {S : Type 0} (up : ℕ → ℕ) (put : List (List Lit) → S → S) (si
     pub emit-spends : (δ : Dir) (ws : List ℕ) (e : Em S) → sized N (emitAll up put δ N ws e) ≤ sized N e
     emit-spends δ [] e = omega arith
     emit-spends δ (w ∷ ws) e = omega (arith, emit-one δ N w (omega arith) .at e, emit-spends δ ws (emit up put δ N w e))
+
+    -- each value adds at most a number and a comparator of k
+    module _ (puts : List (List Lit) → S → S) (k : ℕ) (os : List ℕ)
+        (adds : (δ : Dir) (t : List ℕ) (v : ℕ) (b : Lit) (n : ℕ) (s : S) → size n (puts (comparator δ (outLits t os) v b) s) ≤ size n s + k) where
+      recorded-spends : (v : ℕ) (w : Work S) → sized N (recorded up v w .em) ≤ sized N (w .em) + p
+      unfolding recorded
+      recorded-spends v w =
+          by-test (λ (x : Work S). sized N (x .em) ≤ sized N (w .em) + p) (ltb (find (w .bounds) (w .count) v) (w .count)) (λ t. omega arith)
+          (λ t. omega (arith, draws (w .em .next) (w .em .sink)))
+
+      compared-spends : (δ : Dir) (v : ℕ) (w : Work S) → sized N (compared puts δ os v w .em) ≤ sized N (w .em) + k
+      unfolding compared
+      compared-spends δ v w =
+          let x : Record = recordAt (w .bounds) (find (w .bounds) (w .count) v) in
+          by-test (λ (y : Work S). sized N (y .em) ≤ sized N (w .em) + k) (markedIn δ x) (λ t. omega arith)
+          (λ t. omega (arith, adds δ (w .em .table) v (pL (x .variable)) (w .em .next) (w .em .sink)))
+
+      bound-spends : (δ : Dir) (vs : List ℕ) (w : Work S) → sized N (boundAll up puts δ os vs w .em) ≤ sized N (w .em) + length vs * (p + k)
+      bound-spends δ [] w = omega arith
+      bound-spends δ (v ∷ vs) w =
+          let x : Work S = recorded up v w in
+          omega (arith, recorded-spends v w, compared-spends δ v x, bound-spends δ vs (compared puts δ os v x), suc-mul (length vs) (p + k))
+
+      pub stage-spends : (δ : Dir) (vs : List ℕ) (w : Work S) → sized N (stage up put puts δ N os vs w .em) ≤ sized N (w .em) + length vs * (p + k)
+      unfolding stage emitted
+      stage-spends δ [] w = omega arith
+      stage-spends δ (v ∷ vs) w = omega (arith, emit-spends δ os (w .em), bound-spends δ (v ∷ vs) (emitted up put δ N os w))
+
+      pub stages-size : (c : ℕ) → 2 * share sum + 2 * share carry ≤ c → (ups downs : List ℕ) (w : Work S)
+          → size (stages up put puts N os ups downs w .em .next) (stages up put puts N os ups downs w .em .sink)
+          ≤ size (w .em .next) (w .em .sink) + N * c + (length ups + length downs) * (p + k)
+      stages-size c h ups downs w =
+          omega (arith, stage-spends iff ups w, stage-spends onlyif downs (stage up put puts iff N os ups w), left-le share c h (w .em .table) N, add-mul (length ups) (length downs) (p + k))
+
+-- ---- the words of a gate and of a comparator
+abbrev pub gateWords : Bit → ℕ
+gateWords sum = 20
+gateWords carry = 12
+
+gate-words : (κ : Kind) (β : Bit) (δ : Dir) (a b c o : Lit) → length (flat (gate κ β δ a b c o)) ≤ gateWords β
+unfolding gate rowsAt rowAt signed signs flat clauseWords
+gate-words half sum iff a b c o = omega arith
+gate-words half sum onlyif a b c o = omega arith
+gate-words half carry iff a b c o = omega arith
+gate-words half carry onlyif a b c o = omega arith
+gate-words full sum iff a b c o = omega arith
+gate-words full sum onlyif a b c o = omega arith
+gate-words full carry iff a b c o = omega arith
+gate-words full carry onlyif a b c o = omega arith
+
+-- the literals of a clause's part, none where there is no clause
+abbrev many : Option (List Lit) → ℕ
+many none = 0
+many (some ls) = length ls
+
+ahead-many : (l : Lit) (x : Option (List Lit)) → many (ahead l x) ≤ suc (many x)
+ahead-many l none = omega arith
+ahead-many l (some ls) = omega arith
+
+above-many : (m : ℕ) (o : Option Lit) (x : Option (List Lit)) → many (above m o x) ≤ suc (many x)
+above-many zero none x = omega arith
+above-many zero (some o) x = ahead-many o x
+above-many (suc m) none x = omega arith
+above-many (suc m) (some o) x = ahead-many (neg o) x
+
+higher-many : (os : Outs) (r : ℕ) → many (higher os r) ≤ length os
+higher-many [] r = omega arith
+higher-many (o ∷ os) r = omega (arith, above-many (r % 2) o (higher os (r / 2)), higher-many os (r / 2))
+
+begins-many : (δ : Dir) (m : ℕ) (o : Option Lit) → many (begins δ m o) ≤ 1
+begins-many iff zero none = omega arith
+begins-many iff zero (some o) = omega arith
+begins-many iff (suc m) o = omega arith
+begins-many onlyif zero o = omega arith
+begins-many onlyif (suc m) none = omega arith
+begins-many onlyif (suc m) (some o) = omega arith
+
+clause-words : (x y : Option (List Lit)) (b : Lit) → length (flat (clauseOf x y b)) ≤ many x + many y + 2
+unfolding flat
+clause-words none y b = omega arith
+clause-words (some a) none b = omega arith
+clause-words (some a) (some ls) b =
+    omega (arith, length-append (clauseWords (a ++ (ls ++ (b ∷ [])))) [], clause-length (a ++ (ls ++ (b ∷ []))), length-append a (ls ++ (b ∷ [])), length-append ls (b ∷ []))
+
+flat-length : (cs ds : List (List Lit)) → length (flat (cs ++ ds)) ≡ length (flat cs) + length (flat ds)
+flat-length cs ds = ap length (flat-append cs ds) ∙ length-append (flat cs) (flat ds)
+
+rows-words : (δ : Dir) (os : Outs) (r : ℕ) (b : Lit) (len : ℕ) → length os ≤ len → length (flat (compareRows δ os r b)) ≤ length os * (len + 2)
+unfolding flat
+rows-words δ [] r b len h = omega arith
+rows-words δ (o ∷ os) r b len h =
+    omega (arith, flat-length (clauseOf (begins δ (r % 2) o) (higher os (r / 2)) b) (compareRows δ os (r / 2) b), clause-words (begins δ (r % 2) o) (higher os (r / 2)) b,
+    begins-many δ (r % 2) o, higher-many os (r / 2), rows-words δ os (r / 2) b len (omega arith), suc-mul (length os) (len + 2))
+
+length-outs : (t ws : List ℕ) → length (outLits t ws) ≡ length ws
+length-outs t [] = refl
+length-outs t (w ∷ ws) = ap suc (length-outs t ws)
+
+-- a comparator of at most len outputs: a row for each of them, or the unit clause
+abbrev pub comparatorWords : ℕ → ℕ
+comparatorWords len = (len + 1) * (len + 2)
+
+comparator-words : (δ : Dir) (t ws : List ℕ) (r : ℕ) (b : Lit) (len : ℕ) → length ws ≤ len → length (flat (comparator δ (outLits t ws) r b)) ≤ comparatorWords len
+unfolding comparator flat clauseWords
+comparator-words δ t ws r b len h = go δ
+  where
+    rows : (δ : Dir) (r : ℕ) (b : Lit) → length (flat (compareRows δ (outLits t ws) r b)) + (len + 2) ≤ comparatorWords len
+    rows δ r b =
+        let l : length (outLits t ws) ≤ len = omega (arith, length-outs t ws) in
+        omega (arith, rows-words δ (outLits t ws) r b len l, mul-le-mul-right (len + 2) l, add-mul len 1 (len + 2))
+
+    go : (δ : Dir) → length (flat (comparator δ (outLits t ws) r b)) ≤ comparatorWords len
+    go iff = omega (arith, rows iff r b)
+    go onlyif =
+        by-test (λ (cs : List (List Lit)). length (flat cs) ≤ comparatorWords len) (eqb (r + 1) (2 ^ length (outLits t ws))) (λ q. omega (arith, rows onlyif r b))
+        (λ q. omega (arith, rows onlyif (r + 1) (neg b)))
+
+-- ---- the whole of an encoding, from above
+module _ (ups downs : List ℕ) (b : Machine) where
+  abbrev begun : Work Clauses
+  begun = wk (em (b .nodes) (b .next) []) (b .bounds) (b .party .bounds)
+
+  pub work-numbers : work ups downs b .em .next ≤ b .next + 4 * b .party .nodes + (length ups + length downs)
+  unfolding work
+  work-numbers =
+      let h : work ups downs b .em .next ≤ b .next + b .party .nodes * 4 + (length ups + length downs) * 1
+      = stages-size plus1 follow (λ n s. n) 1 (λ β. 0) (λ n s. omega arith) (λ κ β δ a b c o n s. omega arith) (b .party .nodes) follow 0 (present (b .party .outputs)) (λ δ t v b n s. omega arith) 4
+      (omega arith) ups downs begun in
+      omega arith
+
+  pub work-words : (len : ℕ) → length (present (b .party .outputs)) ≤ len
+      → length (flat (work ups downs b .em .sink)) ≤ 64 * b .party .nodes + (length ups + length downs) * comparatorWords len
+  unfolding work flat
+  work-words len h =
+      let os : List ℕ = present (b .party .outputs) in
+      let k : length (flat (work ups downs b .em .sink)) ≤ 0 + b .party .nodes * 64 + (length ups + length downs) * (0 + comparatorWords len)
+      = stages-size plus1 follow (λ n s. length (flat s)) 0 gateWords (λ n s. omega arith) (λ κ β δ a b c o n s. omega (arith, flat-length s (gate κ β δ a b c o), gate-words κ β δ a b c o))
+      (b .party .nodes) follow (comparatorWords len) os
+      (λ δ t v b n s. omega (arith, flat-length s (comparator δ (outLits t os) v b), comparator-words δ t os v b len h)) 64 (omega arith) ups downs begun in
+      omega (arith, rw (zero-add (comparatorWords len)) at k)
