@@ -5,3 +5,4 @@ pub mod Emission
 pub mod Frame
 pub mod Bounding
 pub mod Table
+pub mod Sizes
