@@ -283,8 +283,15 @@ rows-words : (δ : Dir) (os : Outs) (r : ℕ) (b : Lit) (len : ℕ) → length o
 unfolding flat
 rows-words δ [] r b len h = omega arith
 rows-words δ (o ∷ os) r b len h =
-    omega (arith, flat-length (clauseOf (begins δ (r % 2) o) (higher os (r / 2)) b) (compareRows δ os (r / 2) b), clause-words (begins δ (r % 2) o) (higher os (r / 2)) b,
-    begins-many δ (r % 2) o, higher-many os (r / 2), rows-words δ os (r / 2) b len (omega arith), suc-mul (length os) (len + 2))
+    omega (
+      arith,
+      flat-length (clauseOf (begins δ (r % 2) o) (higher os (r / 2)) b) (compareRows δ os (r / 2) b),
+      clause-words (begins δ (r % 2) o) (higher os (r / 2)) b,
+      begins-many δ (r % 2) o,
+      higher-many os (r / 2),
+      rows-words δ os (r / 2) b len (omega arith),
+      suc-mul (length os) (len + 2),
+    )
 
 length-outs : (t ws : List ℕ) → length (outLits t ws) ≡ length ws
 length-outs t [] = refl
