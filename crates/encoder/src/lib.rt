@@ -326,6 +326,7 @@ fn encode_asked(
         up,
         down,
         need.nodes,
+        need.positions,
     );
     if short == 10 {
         return Encoded {

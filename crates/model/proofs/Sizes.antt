@@ -10,7 +10,7 @@ use Prim.Native.Nat.{ℕ, zero, suc, _+_, _*_, _/_, _%_, _^_, _≤_, _<_}
 use native.Mathlib.Nat.{zero-add, suc-mul, add-mul, mul-le-mul-right}
 use native.Mathlib.Omega.{arith}
 use native.Mathlib.Decide.{ℕ-discrete}
-use borrow.Author.Tests.{eqb-true, ltb-true, ne-eqb, eq-eqb, eqb-false}
+use borrow.Author.Tests.{eqb-true, ltb-true, eq-eqb, eqb-false}
 use lib.Dec.{eqb, ltb}
 use lib.ListN.{length, getD, set, length-append, length-set}
 use lib.Seq.{getD-set-same, getD-set-other}
@@ -19,7 +19,7 @@ use Rattle.model.specs.Words.{clauseWords, flat}
 use Rattle.model.specs.Signs.{Kind, half, full, Bit, sum, carry, Dir, iff, onlyif, signs, signed, rowAt, rowsAt, gate}
 use Rattle.model.specs.Nodes.{Node, bitAt, markPlace, inTable, nodeAt, var, setVar, marked, setMark}
 use Rattle.model.specs.Buckets.{present}
-use Rattle.model.specs.Compare.{Outs, outLit, outLits, ahead, above, higher, begins, clauseOf, compareRows, comparator}
+use Rattle.model.specs.Compare.{Outs, outLits, ahead, above, higher, begins, clauseOf, compareRows, comparator}
 use Rattle.model.specs.Machine.{Record, Machine, recordAt, markedIn, find}
 use Rattle.model.specs.Bounds.{Work, recorded, compared, boundAll, emitted, stage, plus1, follow, Clauses}
 use Rattle.model.specs.Calls.{work}
@@ -33,14 +33,18 @@ use Rattle.model.proofs.Bounding.{wk, stages}
 abbrev unless : Bool → ℕ → ℕ
 unless b k = cond b 0 k
 
-unfoldable pub due : (Bit → ℕ) → ℕ → ℕ
+unless-le : (b : Bool) (k : ℕ) → unless b k ≤ k
+unless-le true k = omega arith
+unless-le false k = omega arith
+
+unfoldable due : (Bit → ℕ) → ℕ → ℕ
 due w m = unless (bitAt 0 m) (w sum) + unless (bitAt 1 m) (w sum) + unless (bitAt 2 m) (w carry) + unless (bitAt 3 m) (w carry)
 
-unfoldable pub left : (Bit → ℕ) → List ℕ → ℕ → ℕ
+unfoldable left : (Bit → ℕ) → List ℕ → ℕ → ℕ
 left w t zero = 0
 left w t (suc n) = left w t n + due w (getD t (8 * n + 6) 0)
 
--- a bit set takes its share
+-- a bit set takes its share; the bits beside it stay
 half-even : (m : ℕ) → eqb (m % 2) 1 ≡ false → (m + 1) / 2 ≡ m / 2
 half-even m h = omega (arith, eqb-false (m % 2) 1 h)
 
@@ -62,10 +66,6 @@ module _ (w : Bit → ℕ) where
   due-falls carry onlyif m h =
       rw (mod-add 2 m, half-add 2 m, mod-add 1 (m / 2), half-add 1 (m / 2), mod-add 0 (m / 2 / 2), half-add 0 (m / 2 / 2), now-odd (m / 2 / 2 / 2) h, h) (omega arith)
 
-  unless-le : (b : Bool) (k : ℕ) → unless b k ≤ k
-  unless-le true k = omega arith
-  unless-le false k = omega arith
-
   left-le : (k : ℕ) → 2 * w sum + 2 * w carry ≤ k → (t : List ℕ) (n : ℕ) → left w t n ≤ n * k
   unfolding left due
   left-le k h t zero = omega arith
@@ -73,7 +73,7 @@ module _ (w : Bit → ℕ) where
       let m : ℕ = getD t (8 * n + 6) 0 in
       omega (arith, left-le k h t n, suc-mul n k, unless-le (bitAt 0 m) (w sum), unless-le (bitAt 1 m) (w sum), unless-le (bitAt 2 m) (w carry), unless-le (bitAt 3 m) (w carry))
 
-  -- a store elsewhere leaves it, as does one to a word that is no mark; a mark takes its share
+  -- a store that is no mark's leaves what is left; a mark takes its share
   left-other : (t : List ℕ) (i x : ℕ) (n : ℕ) → ((k : ℕ) → k < n → 8 * k + 6 ≢ i) → left w (set t i x) n ≡ left w t n
   unfolding left
   left-other t i x zero ne = refl
@@ -189,7 +189,7 @@ module _ {S : Type 0} (up : ℕ → ℕ) (put : List (List Lit) → S → S) (si
         choice (ltb (w / 4) l) (λ t. emit-one δ l w (omega arith))
         (choice (eqb (w / 4) l) (λ t. kind-spends (w % 4) δ (w / 4) (omega (arith, eqb-true (w / 4) l t)) (λ δ′ v. emit-one δ′ l v (omega arith))) still)
 
-    pub emit-spends : (δ : Dir) (ws : List ℕ) (e : Em S) → sized N (emitAll up put δ N ws e) ≤ sized N e
+    emit-spends : (δ : Dir) (ws : List ℕ) (e : Em S) → sized N (emitAll up put δ N ws e) ≤ sized N e
     emit-spends δ [] e = omega arith
     emit-spends δ (w ∷ ws) e = omega (arith, emit-one δ N w (omega arith) .at e, emit-spends δ ws (emit up put δ N w e))
 
@@ -215,19 +215,19 @@ module _ {S : Type 0} (up : ℕ → ℕ) (put : List (List Lit) → S → S) (si
           let x : Work S = recorded up v w in
           omega (arith, recorded-spends v w, compared-spends δ v x, bound-spends δ vs (compared puts δ os v x), suc-mul (length vs) (p + k))
 
-      pub stage-spends : (δ : Dir) (vs : List ℕ) (w : Work S) → sized N (stage up put puts δ N os vs w .em) ≤ sized N (w .em) + length vs * (p + k)
+      stage-spends : (δ : Dir) (vs : List ℕ) (w : Work S) → sized N (stage up put puts δ N os vs w .em) ≤ sized N (w .em) + length vs * (p + k)
       unfolding stage emitted
       stage-spends δ [] w = omega arith
       stage-spends δ (v ∷ vs) w = omega (arith, emit-spends δ os (w .em), bound-spends δ (v ∷ vs) (emitted up put δ N os w))
 
-      pub stages-size : (c : ℕ) → 2 * share sum + 2 * share carry ≤ c → (ups downs : List ℕ) (w : Work S)
+      stages-size : (c : ℕ) → 2 * share sum + 2 * share carry ≤ c → (ups downs : List ℕ) (w : Work S)
           → size (stages up put puts N os ups downs w .em .next) (stages up put puts N os ups downs w .em .sink)
           ≤ size (w .em .next) (w .em .sink) + N * c + (length ups + length downs) * (p + k)
       stages-size c h ups downs w =
           omega (arith, stage-spends iff ups w, stage-spends onlyif downs (stage up put puts iff N os ups w), left-le share c h (w .em .table) N, add-mul (length ups) (length downs) (p + k))
 
 -- ---- the words of a gate and of a comparator
-abbrev pub gateWords : Bit → ℕ
+abbrev gateWords : Bit → ℕ
 gateWords sum = 20
 gateWords carry = 12
 

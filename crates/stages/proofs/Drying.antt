@@ -46,7 +46,7 @@ length-run b zero = refl
 length-run b (suc n) = ap suc (length-run (suc b) n)
 
 -- ---- a build's outputs are as many as 01 allows
-length-fronts : (qs : List (List ℕ)) → length (fronts qs) ≡ length qs
+pub length-fronts : (qs : List (List ℕ)) → length (fronts qs) ≡ length qs
 length-fronts [] = refl
 length-fronts (q ∷ qs) = ap suc (length-fronts qs)
 

@@ -53,6 +53,12 @@ lacking ups downs m =
     let w : Work Clauses = work ups downs (built m) in
     verdictOf (w .em .next) (m .shared .fill + length (flat (w .em .sink))) (length (m .clauses))
 
+-- what every encoding needs at most fits: for each of n nodes 64 words and 4 numbers, for each value a number and a comparator's rows, one
+-- for each of len outputs or the unit clause
+pub record Surely (next fill space n len values : ℕ) : Type 0 where
+  pub numbers : next + (4 * n + values) ≤ greatest + 1
+  pub words : fill + (64 * n + values * ((len + 1) * (len + 2))) ≤ space
+
 -- the state after its work
 unfoldable pub workedOf : Party → Bounded → ℕ → State
 workedOf p w next = record {

@@ -10,12 +10,13 @@ ghost use Rattle.model.specs.Words.{putBatch, putEach};
 ghost use Rattle.model.specs.Nodes.{bump};
 ghost use Rattle.model.specs.Bounds as model;
 ghost use Rattle.model.proofs.Bounding as laws;
-ghost use Rattle.model.specs.Machine.{totalOf};
+ghost use Rattle.model.specs.Buckets.{present, positionsAfter};
+ghost use Rattle.model.specs.Machine.{pending, totalOf};
 ghost use Rattle.party.specs.Read.{machineOf, partyOf};
 ghost use Rattle.staging.specs.Built.{nodesOf};
 ghost use Rattle.emitter.specs.State.{dirOf};
 ghost use Rattle.bounds.specs.Index as index;
-ghost use Rattle.stages.specs.Ask.{valuesOf, Asking, Both, keptOf, verdictOf, lacking, Ready, Dry, Enough, workedOf, encoded};
+ghost use Rattle.stages.specs.Ask.{valuesOf, Asking, Both, keptOf, verdictOf, lacking, Surely, Ready, Dry, Enough, workedOf, encoded};
 use bounds::Bounded;
 use emitter::Cursor;
 use literal::GREATEST;
@@ -204,8 +205,33 @@ fn few(old: u32, ups: usize, downs: usize) -> bool
     old as usize + (ups + downs) <= 64
 }
 
+// Whether the most that an encoding can need fits, so that no dry run is needed.
+fn surely_fits(
+    next: u32,
+    fill: usize,
+    space: usize,
+    n: u32,
+    len: usize,
+    ups: usize,
+    downs: usize,
+) -> bool
+    requires { ⌜ (n ≤ 4096) × (len ≤ 48) × (ups ≤ 1024) × (downs ≤ 1024) ⌝ }
+    ensures { λ r. ⌜ (r ≡ true → Surely next fill space n len (ups + downs)) ⌝ }
+{
+    let values = ups + downs;
+    let numbers = 4 * n + values as u32;
+    if GREATEST + 1 - numbers < next {
+        return false;
+    }
+    if space < fill {
+        return false;
+    }
+    let rows = (len + 1) * (len + 2);
+    64 * (n as usize) + values * rows <= space - fill
+}
+
 // What an encoding lacks, in a scratch table t and scratch records r of the size that is needed: most calls are small ones. n is the number
-// of nodes after the build, at most 4,096, and space the buffer's length.
+// of nodes after the build, at most 4,096, len the number of outputs then, and space the buffer's length.
 pub fn encode_short(
     state: State,
     next: u32,
@@ -215,10 +241,15 @@ pub fn encode_short(
     up: Cut,
     down: Cut,
     n: u32,
+    len: usize,
 ) -> u32
-    requires { ⌜ Ready state (now nodes) (now bounds) up down × (n ≡ nodesOf (partyOf (state .party))) × (n ≤ 4096) ⌝ }
+    requires { ⌜ Ready state (now nodes) (now bounds) up down × (n ≡ nodesOf (partyOf (state .party))) × (n ≤ 4096) × (len ≡ positionsAfter (pending (partyOf (state .party))) (present (partyOf (state .party) .outputs)) (state .party .nodes)) ⌝ }
     ensures { λ r. ⌜ ((ws : List ℤ) → length ws ≡ space → space < 18446744073709551615 → r ≡ lacking (valuesOf up) (valuesOf down) (machineOf state next (now (nodes .entry)) (now (bounds .entry)) ws)) ⌝ }
 {
+    let s = state.shared;
+    if surely_fits(next, s.fill, space, n, len, up.n, down.n) {
+        return 0;
+    }
     if n <= 64 {
         let mut t = staging::small_room();
         if few(kept_bounds(state.party), up.n, down.n) {

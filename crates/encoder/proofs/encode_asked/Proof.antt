@@ -81,7 +81,7 @@ encode-short-requires c κs =
     let m : Machine = machineOf (s .args .state) (s .args .next) (s .args .nodes .now) (s .args .bounds .now) (s .args .clauses .now) in
     let f : tooMany (valuesOf up) (valuesOf down) m ≡ false = sym (c .before .before .before .before .before .before .before .before .before .before .before .before .too-many .ensures _ _ _) ∙ c .before .before .before .before .before .before .before .before .before .before .before .if1 .left in
     let n : Needed m (c .before .before .before .before .before .before .before .needs-after .result) = needed (s .args .state .party) m refl (wide s) (long s) (s .pre .0) _ (c .before .before .before .before .before .before .before .needs-after .ensures) in
-    (ready (s .args .state) (s .args .next) (s .args .nodes .now) (s .args .bounds .now) (s .args .clauses .now) up down (s .pre .0) (wide s) (long s) f _ n _ (c .before .before .before .before .node-room .ensures) (c .before .before .if3 .left) (c .before .before .before .before .before .if2 .left) (s .pre .2) (s .pre .3), n .many, few-nodes m _ n _ (c .before .before .before .before .node-room .ensures) (c .before .before .if3 .left))
+    (ready (s .args .state) (s .args .next) (s .args .nodes .now) (s .args .bounds .now) (s .args .clauses .now) up down (s .pre .0) (wide s) (long s) f _ n _ (c .before .before .before .before .node-room .ensures) (c .before .before .if3 .left) (c .before .before .before .before .before .if2 .left) (s .pre .2) (s .pre .3), n .many, few-nodes m _ n _ (c .before .before .before .before .node-room .ensures) (c .before .before .if3 .left), n .wide)
 
 same-length-4 : tie.Need-same-length-4
 same-length-4 c = search needs
