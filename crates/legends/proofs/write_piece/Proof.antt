@@ -26,13 +26,28 @@ ready-requires : tie.Need-ready-requires Inv-loop μ-loop
 ready-requires c κs = search needs
 
 turn-requires : tie.Need-turn-requires Inv-loop μ-loop
-turn-requires c κs = (ready-room _ _ _ (c .before .before .ready .ensures) (c .before .if1 .taken), (c .before .before .before .before .before .tables-damaged .ensures _ [], c .before .before .before .before .enforce-damaged .ensures))
+turn-requires c κs =
+    let u = c .before in
+    let v = u .before in
+    let w = v .before .before in
+    let x = w .before in
+    (ready-room _ _ _ (v .ready .ensures) (u .if1 .taken), (x .tables-damaged .ensures _ [], w .enforce-damaged .ensures))
 
 loop-less : tie.Need-loop-less Inv-loop μ-loop
-loop-less c = turn-falls _ _ _ _ (c .before .before .before .before .before .ready .ensures) (c .before .before .before .before .if1 .taken) (c .before .before .turn .ensures .0)
+loop-less c =
+    let u = c .before .before in
+    let v = u .before .before in
+    let w = v .before in
+    turn-falls _ _ _ _ (w .ready .ensures) (v .if1 .taken) (u .turn .ensures .0)
 
 loop-again : tie.Need-loop-again Inv-loop μ-loop
-loop-again c = along-turn _ _ _ _ _ _ (c .before .before .before .before .before .before .loop .inv) (c .before .before .before .before .before .ready .ensures) (c .before .before .before .before .if1 .taken) (omega (arith, c .before .before .before .before .before .before .before .before .before, c .before .before .before .before .before .before .loop .inv .size)) (omega arith) (c .before .before .turn .ensures)
+loop-again c =
+    let u = c .before .before in
+    let v = u .before .before in
+    let w = v .before in
+    let x = w .before in
+    let y = x .before .before .before in
+    along-turn _ _ _ _ _ _ (x .loop .inv) (w .ready .ensures) (v .if1 .taken) (omega (arith, y, x .loop .inv .size)) (omega arith) (u .turn .ensures)
 
 same-length : tie.Need-same-length Inv-loop μ-loop
 same-length c = omega (arith, c .before .before .loop .inv .size)

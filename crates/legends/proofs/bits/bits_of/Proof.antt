@@ -17,7 +17,11 @@ same-length : tie.Need-same-length
 same-length c = search needs
 
 returns : tie.Need-returns
-returns c = λ next bounds clauses. all-bits _ _ (c .before .before .before .before .before .before .before .before .before .before .clear .ensures) (c .before .before .before .before .before .before .output-bits .ensures) (c .before .before .node-bits .ensures)
+returns c =
+    let u = c .before .before in
+    let v = u .before .before .before .before in
+    let w = v .before .before .before .before in
+    λ next bounds clauses. all-bits _ _ (w .clear .ensures) (v .output-bits .ensures) (u .node-bits .ensures)
 
 pub bits-of-spec : {M : Type 1} → statement M
 bits-of-spec = tie.close (tie.spec clear-requires output-bits-requires node-bits-requires same-length returns)

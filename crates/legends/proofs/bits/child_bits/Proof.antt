@@ -41,7 +41,15 @@ same-length : tie.Need-same-length
 same-length c = search needs
 
 returns : tie.Need-returns
-returns c = children _ _ _ (c .before .before .before .before .before .before .before .before .before .before .before .before .before .before .before .word-at .ensures) (c .before .before .before .before .before .before .before .before .before .before .before .before .before .before .word-at2 .ensures) (c .before .before .before .before .before .before .before .before .before .before .before .before .before .word-at3 .ensures) (c .before .before .before .before .before .before .before .before .before .before .before .before .word-at4 .ensures) (c .before .before .before .before .before .before .before .before .before .before .note-bit .ensures) (c .before .before .before .before .before .before .note-bit2 .ensures) (c .before .before .note-bit3 .ensures)
+returns c =
+    let u = c .before .before in
+    let v = u .before .before .before .before in
+    let w = v .before .before .before .before in
+    let x = w .before .before in
+    let y = x .before in
+    let z = y .before in
+    let s = z .before in
+    children _ _ _ (s .word-at .ensures) (z .word-at2 .ensures) (y .word-at3 .ensures) (x .word-at4 .ensures) (w .note-bit .ensures) (v .note-bit2 .ensures) (u .note-bit3 .ensures)
 
 pub child-bits-spec : {M : Type 1} → statement M
 child-bits-spec =

@@ -27,7 +27,11 @@ loop-less : tie.Need-loop-less Inv-loop μ-loop
 loop-less c = omega (arith, c .before .before .before .before .loop-test)
 
 loop-again : tie.Need-loop-again Inv-loop μ-loop
-loop-again c = (search needs, node-more _ _ _ _ (c .before .before .before .before .before .loop .inv .1) (c .before .before .before .before .loop-test .taken) (c .before .before .child-bits .ensures))
+loop-again c =
+    let u = c .before .before in
+    let v = u .before .before in
+    let w = v .before in
+    (search needs, node-more _ _ _ _ (w .loop .inv .1) (v .loop-test .taken) (u .child-bits .ensures))
 
 same-length : tie.Need-same-length Inv-loop μ-loop
 same-length c = c .before .loop .inv .0

@@ -26,7 +26,12 @@ same-length-2 : tie.Need-same-length-2
 same-length-2 c = search needs
 
 returns-2 : tie.Need-returns-2
-returns-2 c = note-carry _ _ _ (c .before .before .before .before .before .before .if1 .left) (c .before .before .before .before .before .if2 .taken) (c .before .before .before .before .last-before .ensures) (c .before .before .keep2 .ensures)
+returns-2 c =
+    let u = c .before .before in
+    let v = u .before .before in
+    let w = v .before in
+    let x = w .before in
+    note-carry _ _ _ (x .if1 .left) (w .if2 .taken) (v .last-before .ensures) (u .keep2 .ensures)
 
 returns-3 : tie.Need-returns-3
 returns-3 c = note-none _ _ _ (c .before .if1 .left) (c .if2 .left)

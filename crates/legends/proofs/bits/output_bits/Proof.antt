@@ -40,16 +40,26 @@ add-i : tie.Need-add-i Inv-loop μ-loop
 add-i c = search needs
 
 loop-less : tie.Need-loop-less Inv-loop μ-loop
-loop-less c = omega (arith, c .before .before .before .before .before .loop-test)
+loop-less c =
+    let u = c .before .before .before .before .before in
+    omega (arith, u .loop-test)
 
 loop-again : tie.Need-loop-again Inv-loop μ-loop
-loop-again c = let k : length (c .before .before .before .before .before .before .before .before .args .t1) ≡ 48 = search needs in (omega (arith, c .before .before .before .before .before .loop-test), search needs, output-more (c .before .before .before .before .before .before .before .before .args .t1) _ _ _ _ (c .before .before .before .before .before .before .loop .inv .2) (c .before .before .before .before .if1 .left) (omega (arith, c .before .before .before .before .before .loop-test)) (c .before .before .note-bit .ensures))
+loop-again c =
+    let u = c .before .before in
+    let v = u .before .before in
+    let w = v .before in
+    let x = w .before in
+    let y = x .before .before in
+    let k : length (y .args .t1) ≡ 48 = search needs in
+    (omega (arith, w .loop-test), search needs, output-more (y .args .t1) _ _ _ _ (x .loop .inv .2) (v .if1 .left) (omega (arith, w .loop-test)) (u .note-bit .ensures))
 
 same-length-2 : tie.Need-same-length-2 Inv-loop μ-loop
 same-length-2 c = c .before .loop .inv .1
 
 returns-2 : tie.Need-returns-2 Inv-loop μ-loop
-returns-2 c = let k : length (c .before .before .before .args .t1) ≡ 48 = search needs in output-none (c .before .before .before .args .t1) (c .before .before .before .args .len) (c .before .loop .i) _ _ (c .before .loop .inv .2) (omega (arith, c .loop-test))
+returns-2 c = let k : length (c .before .before .before .args .t1) ≡ 48 = search needs in
+    output-none (c .before .before .before .args .t1) (c .before .before .before .args .len) (c .before .loop .i) _ _ (c .before .loop .inv .2) (omega (arith, c .loop-test))
 
 pub output-bits-spec : {M : Type 1} → statement M
 output-bits-spec =

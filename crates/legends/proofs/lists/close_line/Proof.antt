@@ -15,7 +15,11 @@ enum-known-line : tie.Need-enum-known-line
 enum-known-line c = search needs
 
 returns : tie.Need-returns
-returns c = closed-none (listingOf (c .before .before .before .before .before .args .l) (c .before .before .before .before .before .args .terms .now)) _ (c .before .before .line-of .ensures) (c .before .begin-line .ensures) (c .match .keys2)
+returns c =
+    let u = c .before in
+    let v = u .before in
+    let w = v .before .before .before in
+    closed-none (listingOf (w .args .l) (w .args .terms .now)) _ (v .line-of .ensures) (u .begin-line .ensures) (c .match .keys2)
 
 pack-requires : tie.Need-pack-requires
 pack-requires c κs = search needs
@@ -30,7 +34,14 @@ same-length : tie.Need-same-length
 same-length c = search needs
 
 returns-2 : tie.Need-returns-2
-returns-2 c = closed-term (listingOf (c .before .before .before .before .before .before .before .before .before .before .before .before .before .args .l) (c .before .before .before .before .before .before .before .before .before .before .before .before .before .args .terms .now)) _ (c .before .before .before .before .before .before .before .before .before .before .line-of .ensures) (c .before .before .before .before .before .before .before .before .before .begin-line .ensures) _ _ _ (c .before .before .before .before .before .before .before .line .given .1) (c .before .before .before .before .before .pack .ensures) (c .before .before .before .note .ensures) (c .count-after .ensures)
+returns-2 c =
+    let u = c .before .before .before in
+    let v = u .before .before in
+    let w = v .before .before in
+    let x = w .before .before in
+    let y = x .before in
+    let z = y .before .before .before in
+    closed-term (listingOf (z .args .l) (z .args .terms .now)) _ (y .line-of .ensures) (x .begin-line .ensures) _ _ _ (w .line .given .1) (v .pack .ensures) (u .note .ensures) (c .count-after .ensures)
 
 pub close-line-spec : {M : Type 1} → statement M
 close-line-spec =

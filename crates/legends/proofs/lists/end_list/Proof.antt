@@ -15,7 +15,11 @@ same-length : tie.Need-same-length
 same-length c = search needs
 
 returns-2 : tie.Need-returns-2
-returns-2 c = end-line (listingOf (c .before .before .before .before .before .before .args .l) (c .before .before .before .before .before .before .args .terms .now)) _ (c .before .before .before .before .if1 .left) (c .before .before .close-line .ensures)
+returns-2 c =
+    let u = c .before .before in
+    let v = u .before .before in
+    let w = v .before .before in
+    end-line (listingOf (w .args .l) (w .args .terms .now)) _ (v .if1 .left) (u .close-line .ensures)
 
 pub end-list-spec : {M : Type 1} → statement M
 end-list-spec = tie.close (tie.spec returns close-line-requires same-length returns-2)

@@ -29,10 +29,17 @@ close-line-requires : tie.Need-close-line-requires Inv-loop μ-loop
 close-line-requires c κs = search needs
 
 loop-less : tie.Need-loop-less Inv-loop μ-loop
-loop-less c = omega (arith, c .before .before .before .before .before .before .loop-test)
+loop-less c =
+    let u = c .before .before .before .before .before .before in
+    omega (arith, u .loop-test)
 
 loop-again : tie.Need-loop-again Inv-loop μ-loop
-loop-again c = (omega (arith, c .before .before .before .before .before .before .loop-test), search needs, line-more _ _ _ _ (c .before .before .before .before .before .before .loop-test .taken) (c .before .before .before .before .before .before .before .loop .inv .2) _ (c .before .before .before .before .if1 .taken) (c .before .before .close-line .ensures))
+loop-again c =
+    let u = c .before .before in
+    let v = u .before .before in
+    let w = v .before .before in
+    let x = w .before in
+    (omega (arith, w .loop-test), search needs, line-more _ _ _ _ (w .loop-test .taken) (x .loop .inv .2) _ (v .if1 .taken) (u .close-line .ensures))
 
 scan-byte-requires : tie.Need-scan-byte-requires Inv-loop μ-loop
 scan-byte-requires c κs = search needs
@@ -41,7 +48,11 @@ loop-less-2 : tie.Need-loop-less-2 Inv-loop μ-loop
 loop-less-2 c = omega (arith, c .before .before .before .before .loop-test)
 
 loop-again-2 : tie.Need-loop-again-2 Inv-loop μ-loop
-loop-again-2 c = (omega (arith, c .before .before .before .before .loop-test), c .before .before .before .before .before .loop .inv .1, other-more _ _ _ _ (c .before .before .before .before .loop-test .taken) (c .before .before .before .before .before .loop .inv .2) _ (c .before .before .if1 .left) (c .scan-byte .ensures))
+loop-again-2 c =
+    let u = c .before .before in
+    let v = u .before .before in
+    let w = v .before in
+    (omega (arith, v .loop-test), w .loop .inv .1, other-more _ _ _ _ (v .loop-test .taken) (w .loop .inv .2) _ (u .if1 .left) (c .scan-byte .ensures))
 
 same-length : tie.Need-same-length Inv-loop μ-loop
 same-length c = c .before .loop .inv .1

@@ -20,7 +20,11 @@ same-length : tie.Need-same-length
 same-length c = search needs
 
 returns : tie.Need-returns
-returns c = note-listed _ _ _ _ (c .before .before .before .before .before .before .before .before .if1 .taken) (c .before .before .before .before .before .before .keep .ensures) (c .before .before .keep2 .ensures)
+returns c =
+    let u = c .before .before in
+    let v = u .before .before .before .before in
+    let w = v .before .before in
+    note-listed _ _ _ _ (w .if1 .taken) (v .keep .ensures) (u .keep2 .ensures)
 
 returns-2 : tie.Need-returns-2
 returns-2 c = note-past _ _ _ _ (c .if1 .left)

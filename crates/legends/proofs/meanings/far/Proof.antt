@@ -23,10 +23,16 @@ cast-if3-3 : tie.Need-cast-if3-3
 cast-if3-3 c = search needs
 
 returns-3 : tie.Need-returns-3
-returns-3 c = λ next nodes bounds ws. far-dropped _ _ (c .before .before .before .before .before .before .if1 .left) (c .before .before .before .before .if2 .left) (c .if3 .taken)
+returns-3 c =
+    let u = c .before .before .before .before in
+    let v = u .before .before in
+    λ next nodes bounds ws. far-dropped _ _ (v .if1 .left) (u .if2 .left) (c .if3 .taken)
 
 returns-4 : tie.Need-returns-4
-returns-4 c = λ next nodes bounds ws. far-perhaps _ _ (c .before .before .before .before .before .before .if1 .left) (c .before .before .before .before .if2 .left) (c .if3 .left)
+returns-4 c =
+    let u = c .before .before .before .before in
+    let v = u .before .before in
+    λ next nodes bounds ws. far-perhaps _ _ (v .if1 .left) (u .if2 .left) (c .if3 .left)
 
 pub far-spec : {M : Type 1} → statement M
 far-spec =

@@ -13,7 +13,11 @@ far-requires : tie.Need-far-requires
 far-requires c κs = search needs
 
 returns-2 : tie.Need-returns-2
-returns-2 c = far-explained _ _ (c .before .before .before .before .before .before .pre) (c .before .before .if1 .left) (c .before .if2 .taken) _ (c .far .ensures _ _ _ [])
+returns-2 c =
+    let u = c .before in
+    let v = u .before in
+    let w = v .before .before .before .before in
+    far-explained _ _ (w .pre) (v .if1 .left) (u .if2 .taken) _ (c .far .ensures _ _ _ [])
 
 cast-word : tie.Need-cast-word
 cast-word c = search needs
@@ -22,7 +26,11 @@ meaning-of-requires : tie.Need-meaning-of-requires
 meaning-of-requires c κs = search needs
 
 returns-3 : tie.Need-returns-3
-returns-3 c = near-explained _ _ (c .before .before .before .before .before .before .pre) (c .before .before .if1 .left) (c .before .if2 .left) _ (c .meaning-of .ensures _ [])
+returns-3 c =
+    let u = c .before in
+    let v = u .before in
+    let w = v .before .before .before .before in
+    near-explained _ _ (w .pre) (v .if1 .left) (u .if2 .left) _ (c .meaning-of .ensures _ [])
 
 pub meant-spec : {M : Type 1} → statement M
 meant-spec =

@@ -20,7 +20,11 @@ same-length : tie.Need-same-length
 same-length c = search needs
 
 returns : tie.Need-returns
-returns c = behind _ _ _ (behind _ _ _ (c .before .before .before .before .before .before .before .before .before .before .put-named .ensures) (c .before .before .before .before .before .before .put-words .ensures)) (c .before .before .put-decimal .ensures)
+returns c =
+    let u = c .before .before in
+    let v = u .before .before .before .before in
+    let w = v .before .before .before .before in
+    behind _ _ _ (behind _ _ _ (w .put-named .ensures) (v .put-words .ensures)) (u .put-decimal .ensures)
 
 pub put-bound-spec : {M : Type 1} → statement M
 put-bound-spec = tie.close (tie.spec slice-aggregate-put-named put-named-requires put-words-requires put-decimal-requires same-length returns)

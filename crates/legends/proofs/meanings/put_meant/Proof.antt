@@ -16,7 +16,10 @@ same-length : tie.Need-same-length
 same-length c = search needs
 
 returns : tie.Need-returns
-returns c = rw (c .before .before .before .before .before .meant .given .1) (c .before .before .put-bound .ensures)
+returns c =
+    let u = c .before .before in
+    let v = u .before .before .before in
+    rw (v .meant .given .1) (u .put-bound .ensures)
 
 enum-known-meant-2 : tie.Need-enum-known-meant-2
 enum-known-meant-2 c = search needs
@@ -49,7 +52,12 @@ same-length-2 : tie.Need-same-length-2
 same-length-2 c = search needs
 
 returns-2 : tie.Need-returns-2
-returns-2 c = rw (c .before .before .before .before .before .before .before .before .before .before .before .before .meant2 .given .1, sym (c .before .before .before .before .before .before .before .before .before .before .word-at .ensures)) (joined _ _ _ (c .before .before .before .before .before .before .before .put-named .ensures) (c .before .before .put-named2 .ensures))
+returns-2 c =
+    let u = c .before .before in
+    let v = u .before .before .before .before .before in
+    let w = v .before .before .before in
+    let x = w .before .before in
+    rw (x .meant2 .given .1, sym (w .word-at .ensures)) (joined _ _ _ (v .put-named .ensures) (u .put-named2 .ensures))
 
 enum-known-meant-3 : tie.Need-enum-known-meant-3
 enum-known-meant-3 c = search needs
@@ -85,7 +93,12 @@ same-length-3 : tie.Need-same-length-3
 same-length-3 c = search needs
 
 returns-3 : tie.Need-returns-3
-returns-3 c = rw (c .before .before .before .before .before .before .before .before .before .before .before .before .meant3 .given .1, sym (c .before .before .before .before .before .before .before .before .before .before .word-at2 .ensures)) (joined _ _ _ (c .before .before .before .before .before .before .before .put-named3 .ensures) (c .before .before .put-named4 .ensures))
+returns-3 c =
+    let u = c .before .before in
+    let v = u .before .before .before .before .before in
+    let w = v .before .before .before in
+    let x = w .before .before in
+    rw (x .meant3 .given .1, sym (w .word-at2 .ensures)) (joined _ _ _ (v .put-named3 .ensures) (u .put-named4 .ensures))
 
 enum-told : tie.Need-enum-told
 enum-told c = search needs
@@ -100,7 +113,10 @@ same-length-4 : tie.Need-same-length-4
 same-length-4 c = search needs
 
 returns-4 : tie.Need-returns-4
-returns-4 c = rw (c .before .before .before .before .before .enum-told .given .1) (one _ _ (c .before .before .put-bytes .ensures))
+returns-4 c =
+    let u = c .before .before in
+    let v = u .before .before .before in
+    rw (v .enum-told .given .1) (one _ _ (u .put-bytes .ensures))
 
 slice-aggregate-put-bytes-2 : tie.Need-slice-aggregate-put-bytes-2
 slice-aggregate-put-bytes-2 c = search needs
@@ -112,7 +128,11 @@ same-length-5 : tie.Need-same-length-5
 same-length-5 c = search needs
 
 returns-5 : tie.Need-returns-5
-returns-5 c = unsaid (c .before .before .before .before .before .before .before .before .args .bits .now) (c .before .before .before .before .before .before .before .before .args .meant) _ (c .before .before .before .before .before .match .keys5) (c .before .before .put-bytes2 .ensures)
+returns-5 c =
+    let u = c .before .before in
+    let v = u .before .before .before in
+    let w = v .before .before .before in
+    unsaid (w .args .bits .now) (w .args .meant) _ (v .match .keys5) (u .put-bytes2 .ensures)
 
 pub put-meant-spec : {M : Type 1} → statement M
 put-meant-spec = tie.close (tie.spec enum-known-meant put-bound-requires same-length returns enum-known-meant-2 cast-word-at word-at-requires cast-bit slice-aggregate-put-named cast-put-named put-named-requires slice-aggregate-put-named-2 put-named-requires-2 same-length-2 returns-2 enum-known-meant-3 cast-word-at-2 word-at-requires-2 cast-bit-2 add-bit slice-aggregate-put-named-3 cast-put-named-2 put-named-requires-3 slice-aggregate-put-named-4 put-named-requires-4 same-length-3 returns-3 enum-told slice-aggregate-put-bytes put-bytes-requires same-length-4 returns-4 slice-aggregate-put-bytes-2 put-bytes-requires-2 same-length-5 returns-5)

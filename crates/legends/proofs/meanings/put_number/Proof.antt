@@ -26,7 +26,12 @@ same-length : tie.Need-same-length
 same-length c = search needs
 
 returns : tie.Need-returns
-returns c = behind _ _ _ (joined _ _ _ (behind _ _ _ (one _ _ (c .before .before .before .before .before .before .before .before .before .before .before .before .before .before .before .before .put-decimal .ensures)) (c .before .before .before .before .before .before .before .before .before .before .before .put-bytes .ensures)) (c .before .before .before .before .before .before .before .put-meant .ensures)) (c .before .before .put-bytes2 .ensures)
+returns c =
+    let u = c .before .before in
+    let v = u .before .before .before .before .before in
+    let w = v .before .before .before .before in
+    let x = w .before .before .before .before .before in
+    behind _ _ _ (joined _ _ _ (behind _ _ _ (one _ _ (x .put-decimal .ensures)) (w .put-bytes .ensures)) (v .put-meant .ensures)) (u .put-bytes2 .ensures)
 
 pub put-number-spec : {M : Type 1} → statement M
 put-number-spec =

@@ -13,7 +13,11 @@ same-length : tie.Need-same-length
 same-length c = search needs
 
 returns : tie.Need-returns
-returns c = rw (c .before .before .before .before .before .before .if1 .taken, c .before .before .before .before .before .if2 .taken) (c .before .before .put-bytes .ensures)
+returns c =
+    let u = c .before .before in
+    let v = u .before .before .before in
+    let w = v .before in
+    rw (w .if1 .taken, v .if2 .taken) (u .put-bytes .ensures)
 
 slice-aggregate-put-bytes-2 : tie.Need-slice-aggregate-put-bytes-2
 slice-aggregate-put-bytes-2 c = search needs
@@ -25,7 +29,11 @@ same-length-2 : tie.Need-same-length-2
 same-length-2 c = search needs
 
 returns-2 : tie.Need-returns-2
-returns-2 c = rw (c .before .before .before .before .before .before .if1 .taken, c .before .before .before .before .before .if2 .left) (c .before .before .put-bytes2 .ensures)
+returns-2 c =
+    let u = c .before .before in
+    let v = u .before .before .before in
+    let w = v .before in
+    rw (w .if1 .taken, v .if2 .left) (u .put-bytes2 .ensures)
 
 slice-aggregate-put-bytes-3 : tie.Need-slice-aggregate-put-bytes-3
 slice-aggregate-put-bytes-3 c = search needs
@@ -37,7 +45,11 @@ same-length-3 : tie.Need-same-length-3
 same-length-3 c = search needs
 
 returns-3 : tie.Need-returns-3
-returns-3 c = rw (c .before .before .before .before .before .before .if1 .left, c .before .before .before .before .before .if3 .taken) (c .before .before .put-bytes3 .ensures)
+returns-3 c =
+    let u = c .before .before in
+    let v = u .before .before .before in
+    let w = v .before in
+    rw (w .if1 .left, v .if3 .taken) (u .put-bytes3 .ensures)
 
 slice-aggregate-put-bytes-4 : tie.Need-slice-aggregate-put-bytes-4
 slice-aggregate-put-bytes-4 c = search needs
@@ -49,7 +61,11 @@ same-length-4 : tie.Need-same-length-4
 same-length-4 c = search needs
 
 returns-4 : tie.Need-returns-4
-returns-4 c = rw (c .before .before .before .before .before .before .if1 .left, c .before .before .before .before .before .if3 .left) (c .before .before .put-bytes4 .ensures)
+returns-4 c =
+    let u = c .before .before in
+    let v = u .before .before .before in
+    let w = v .before in
+    rw (w .if1 .left, v .if3 .left) (u .put-bytes4 .ensures)
 
 pub put-words-spec : {M : Type 1} → statement M
 put-words-spec = tie.close (tie.spec slice-aggregate-put-bytes put-bytes-requires same-length returns slice-aggregate-put-bytes-2 put-bytes-requires-2 same-length-2 returns-2 slice-aggregate-put-bytes-3 put-bytes-requires-3 same-length-3 returns-3 slice-aggregate-put-bytes-4 put-bytes-requires-4 same-length-4 returns-4)

@@ -38,7 +38,13 @@ same-length : tie.Need-same-length
 same-length c = search needs
 
 returns : tie.Need-returns
-returns c = behind _ _ _ (joined _ _ _ (joined _ _ _ (joined _ _ _ (c .before .before .before .before .before .before .before .before .before .before .before .before .before .before .before .before .before .before .before .before .before .before .put-named .ensures) (c .before .before .before .before .before .before .before .before .before .before .before .before .before .before .before .before .before .put-named2 .ensures)) (c .before .before .before .before .before .before .before .before .before .before .before .before .put-named3 .ensures)) (c .before .before .before .before .before .before .before .put-named4 .ensures)) (c .before .before .put-bytes .ensures)
+returns c =
+    let u = c .before .before in
+    let v = u .before .before .before .before .before in
+    let w = v .before .before .before .before .before in
+    let x = w .before .before .before .before .before in
+    let y = x .before .before .before .before .before in
+    behind _ _ _ (joined _ _ _ (joined _ _ _ (joined _ _ _ (y .put-named .ensures) (x .put-named2 .ensures)) (w .put-named3 .ensures)) (v .put-named4 .ensures)) (u .put-bytes .ensures)
 
 pub put-head-spec : {M : Type 1} → statement M
 put-head-spec =

@@ -14,7 +14,10 @@ same-length : tie.Need-same-length
 same-length c = search needs
 
 returns : tie.Need-returns
-returns c = behind _ _ _ (one _ _ (c .before .before .before .before .before .before .put-bytes .ensures)) (c .before .before .put-decimal .ensures)
+returns c =
+    let u = c .before .before in
+    let v = u .before .before .before .before in
+    behind _ _ _ (one _ _ (v .put-bytes .ensures)) (u .put-decimal .ensures)
 
 pub put-named-spec : {M : Type 1} → statement M
 put-named-spec = tie.close (tie.spec put-bytes-requires put-decimal-requires same-length returns)

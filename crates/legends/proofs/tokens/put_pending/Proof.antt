@@ -24,7 +24,11 @@ same-length : tie.Need-same-length
 same-length c = search needs
 
 returns-2 : tie.Need-returns-2
-returns-2 c = some-pending _ _ (c .before .before .before .before .before .before .before .before .before .before .if1 .left) (behind _ _ _ (c .before .before .before .before .before .before .before .put-named .ensures) (c .before .before .put-bytes .ensures))
+returns-2 c =
+    let u = c .before .before in
+    let v = u .before .before .before .before .before in
+    let w = v .before .before .before in
+    some-pending _ _ (w .if1 .left) (behind _ _ _ (v .put-named .ensures) (u .put-bytes .ensures))
 
 pub put-pending-spec : {M : Type 1} → statement M
 put-pending-spec =

@@ -14,7 +14,10 @@ same-length : tie.Need-same-length
 same-length c = search needs
 
 returns : tie.Need-returns
-returns c = joined _ _ _ (c .before .before .before .before .before .before .put-more .ensures) (c .before .before .put-pending .ensures)
+returns c =
+    let u = c .before .before in
+    let v = u .before .before .before .before in
+    joined _ _ _ (v .put-more .ensures) (u .put-pending .ensures)
 
 pub put-tail-spec : {M : Type 1} → statement M
 put-tail-spec = tie.close (tie.spec put-more-requires put-pending-requires same-length returns)

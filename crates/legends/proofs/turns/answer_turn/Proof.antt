@@ -38,7 +38,13 @@ same-length : tie.Need-same-length
 same-length c = search needs
 
 returns-3 : tie.Need-returns-3
-returns-3 c = at-question _ _ _ _ _ _ _ (c .before .before .before .before .before .before .before .if1 .left) _ (c .before .before .before .before .before .before .asked-word .ensures) (c .before .before .before .before .before .if2 .left) _ (c .before .before .before .before .asked-word2 .ensures) (c .before .before .question .ensures)
+returns-3 c =
+    let u = c .before .before in
+    let v = u .before .before in
+    let w = v .before in
+    let x = w .before in
+    let y = x .before in
+    at-question _ _ _ _ _ _ _ (y .if1 .left) _ (x .asked-word .ensures) (w .if2 .left) _ (v .asked-word2 .ensures) (u .question .ensures)
 
 pub answer-turn-spec : {M : Type 1} → statement M
 answer-turn-spec =

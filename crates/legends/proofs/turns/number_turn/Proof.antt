@@ -20,7 +20,11 @@ same-length : tie.Need-same-length
 same-length c = search needs
 
 returns-2 : tie.Need-returns-2
-returns-2 c = at-number _ _ _ _ (c .before .before .before .before .before .if1 .left) _ (c .before .before .before .before .meant .ensures) (c .before .before .put-number .ensures)
+returns-2 c =
+    let u = c .before .before in
+    let v = u .before .before in
+    let w = v .before in
+    at-number _ _ _ _ (w .if1 .left) _ (v .meant .ensures) (u .put-number .ensures)
 
 pub number-turn-spec : {M : Type 1} → statement M
 number-turn-spec =

@@ -12,22 +12,38 @@ asked-word-requires : tie.Need-asked-word-requires
 asked-word-requires c κs = search needs
 
 put-upper-requires : tie.Need-put-upper-requires
-put-upper-requires c κs = sym (c .before .before .before .before .before .before .before .pre) ∙ c .before .before .before .if1 .left
+put-upper-requires c κs =
+    let u = c .before .before .before in
+    let v = u .before .before .before .before in
+    sym (v .pre) ∙ u .if1 .left
 
 same-length : tie.Need-same-length
 same-length c = search needs
 
 returns-2 : tie.Need-returns-2
-returns-2 c = asks-upper _ _ (c .before .before .before .before .before .before .before .before .before .before .args .asked .now) (c .before .before .before .before .before .before .before .before .before .before .args .line) _ _ _ (c .before .before .before .before .before .asked-word .ensures) _ (c .before .before .before .before .if2 .taken) (c .before .before .put-upper .ensures)
+returns-2 c =
+    let u = c .before .before in
+    let v = u .before .before in
+    let w = v .before in
+    let x = w .before .before .before .before .before in
+    asks-upper _ _ (x .args .asked .now) (x .args .line) _ _ _ (w .asked-word .ensures) _ (v .if2 .taken) (u .put-upper .ensures)
 
 put-lower-requires : tie.Need-put-lower-requires
-put-lower-requires c κs = sym (c .before .before .before .before .before .before .before .pre) ∙ c .before .before .before .if1 .left
+put-lower-requires c κs =
+    let u = c .before .before .before in
+    let v = u .before .before .before .before in
+    sym (v .pre) ∙ u .if1 .left
 
 same-length-2 : tie.Need-same-length-2
 same-length-2 c = search needs
 
 returns-3 : tie.Need-returns-3
-returns-3 c = asks-lower _ _ (c .before .before .before .before .before .before .before .before .before .before .args .asked .now) (c .before .before .before .before .before .before .before .before .before .before .args .line) _ _ _ (c .before .before .before .before .before .asked-word .ensures) _ (c .before .before .before .before .if2 .left) (c .before .before .put-lower .ensures)
+returns-3 c =
+    let u = c .before .before in
+    let v = u .before .before in
+    let w = v .before in
+    let x = w .before .before .before .before .before in
+    asks-lower _ _ (x .args .asked .now) (x .args .line) _ _ _ (w .asked-word .ensures) _ (v .if2 .left) (u .put-lower .ensures)
 
 pub question-spec : {M : Type 1} → statement M
 question-spec =

@@ -51,7 +51,14 @@ same-length-3 : tie.Need-same-length-3
 same-length-3 c = search needs
 
 returns-3 : tie.Need-returns-3
-returns-3 c = at-term _ _ _ _ _ _ (omega (arith, c .before .before .before .before .before .before .before .before .if1)) (omega (arith, c .before .before .before .before .before .before .before .if2)) (c .before .before .before .before .before .before .word-at .ensures) (c .before .before .before .before .before .word-at2 .ensures) (c .before .before .before .before .unpack .ensures) (record { sfits = search needs }) (c .before .before .put-term .ensures)
+returns-3 c =
+    let u = c .before .before in
+    let v = u .before .before in
+    let w = v .before in
+    let x = w .before in
+    let y = x .before in
+    let z = y .before in
+    at-term _ _ _ _ _ _ (omega (arith, z .if1)) (omega (arith, y .if2)) (x .word-at .ensures) (w .word-at2 .ensures) (v .unpack .ensures) (record { sfits = search needs }) (u .put-term .ensures)
 
 pub term-turn-spec : {M : Type 1} → statement M
 term-turn-spec =

@@ -18,7 +18,11 @@ same-length : tie.Need-same-length
 same-length c = search needs
 
 returns : tie.Need-returns
-returns c = rw (c .before .before .before .before .before .enum-told .given .1) (head-step _ _ _ (c .before .before .before .before .total .ensures) (c .before .before .put-head .ensures))
+returns c =
+    let u = c .before .before in
+    let v = u .before .before in
+    let w = v .before in
+    rw (w .enum-told .given .1) (head-step _ _ _ (v .total .ensures) (u .put-head .ensures))
 
 enum-known-part : tie.Need-enum-known-part
 enum-known-part c = search needs
@@ -30,7 +34,10 @@ same-length-2 : tie.Need-same-length-2
 same-length-2 c = search needs
 
 returns-2 : tie.Need-returns-2
-returns-2 c = rw (c .before .before .before .before .before .part .given .1) (terms-step _ _ _ _ (c .before .before .term-turn .ensures))
+returns-2 c =
+    let u = c .before .before in
+    let v = u .before .before .before in
+    rw (v .part .given .1) (terms-step _ _ _ _ (u .term-turn .ensures))
 
 enum-known-part-2 : tie.Need-enum-known-part-2
 enum-known-part-2 c = search needs
@@ -42,7 +49,10 @@ same-length-3 : tie.Need-same-length-3
 same-length-3 c = search needs
 
 returns-3 : tie.Need-returns-3
-returns-3 c = rw (c .before .before .before .before .before .part2 .given .1) (numbers-step _ _ _ _ (c .before .before .number-turn .ensures))
+returns-3 c =
+    let u = c .before .before in
+    let v = u .before .before .before in
+    rw (v .part2 .given .1) (numbers-step _ _ _ _ (u .number-turn .ensures))
 
 enum-known-part-3 : tie.Need-enum-known-part-3
 enum-known-part-3 c = search needs
@@ -54,7 +64,10 @@ same-length-4 : tie.Need-same-length-4
 same-length-4 c = search needs
 
 returns-4 : tie.Need-returns-4
-returns-4 c = rw (c .before .before .before .before .before .part3 .given .1) (answers-step _ _ _ _ _ (c .before .before .answer-turn .ensures))
+returns-4 c =
+    let u = c .before .before in
+    let v = u .before .before .before in
+    rw (v .part3 .given .1) (answers-step _ _ _ _ _ (u .answer-turn .ensures))
 
 enum-known-part-4 : tie.Need-enum-known-part-4
 enum-known-part-4 c = search needs
@@ -66,7 +79,10 @@ same-length-5 : tie.Need-same-length-5
 same-length-5 c = search needs
 
 returns-5 : tie.Need-returns-5
-returns-5 c = rw (c .before .before .before .before .before .part4 .given .1) (refused-step _ _ _ _ (c .before .before .put-refusal .ensures))
+returns-5 c =
+    let u = c .before .before in
+    let v = u .before .before .before in
+    rw (v .part4 .given .1) (refused-step _ _ _ _ (u .put-refusal .ensures))
 
 enum-told-2 : tie.Need-enum-told-2
 enum-told-2 c = search needs
