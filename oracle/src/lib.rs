@@ -41,7 +41,7 @@ pub mod instances;
 pub mod text;
 pub mod types;
 
-pub use crate::encoder::{caught, Oracle, Report};
+pub use crate::encoder::{caught, quiet_text, Oracle, Report};
 pub use crate::text::{Adder, Build, Constraint, Direction, Linear, Order};
 
 /// Shim of rustsat's error; the harness's collector never runs out of memory.

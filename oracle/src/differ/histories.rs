@@ -1,7 +1,7 @@
 //! Random histories: each is a list of calls on tables of its own, made with an eye on what the encoder holds, so that
 //! bounds are asked near those encoded, lists reach their limits, and tables are just large enough or just too small.
 
-use super::call::{single_sides, Call, Side, Way};
+use super::call::{single_sides, Call, Field, Side, Table, Way};
 use super::machine::{Answer, Machine};
 use super::random::Random;
 use super::reading::{sum, GREATEST, MOST_TOTAL};
@@ -229,6 +229,41 @@ impl Plan {
     }
 }
 
+/// A word or field that is spoilt, and what puts it right again. Most of it is damage; words above a count are nobody's.
+fn spoilt_memory(random: &mut Random, machine: &Machine) -> Option<(Call, Call)> {
+    let (nodes, records, _) = machine.used();
+    let (node_words, bound_words, buffer_words) = machine.lengths();
+    let past = 4 * nodes as u32 + random.pick(&[2, 3]);
+    let strange = random.pick(&[0, 1, 3, past, GREATEST + 1, 1 << 31, (1 << 31) + 1, u32::MAX]);
+    let word = |table: Table, place: u64| {
+        let before = machine.word(table, place)?;
+        Some((Call::Word(table, place, strange), Call::Word(table, place, before)))
+    };
+    let field = |field: Field, values: &[u64], random: &mut Random| {
+        Some((Call::Field(field, random.pick(values)), Call::Field(field, machine.field(field))))
+    };
+    let most = u64::from(u32::MAX);
+    match random.below(9) {
+        0 | 1 => word(Table::Node, random.below(8 * nodes as u64)),
+        2 => word(Table::Bound, random.below(3 * records as u64)),
+        3 => word(Table::Output, random.below(48)),
+        4 => {
+            let table = random.pick(&[Table::Node, Table::Bound]);
+            word(table, random.below(if table == Table::Node { node_words } else { bound_words } as u64))
+        }
+        5 => {
+            let less = (machine.clauses() as u64).saturating_sub(1);
+            field(Field::Fill, &[buffer_words as u64 + 1, most, less], random)
+        }
+        6 => {
+            let less = (nodes as u64).saturating_sub(1);
+            field(Field::Nodes, &[4_097, node_words as u64 / 8 + 1, most, less], random)
+        }
+        7 => field(Field::Bounds, &[1_025, bound_words as u64 / 3 + 1, most], random),
+        _ => field(Field::Width, &[49, most], random),
+    }
+}
+
 /// A literal of small variables; seldom one at the limit.
 fn any_literal(random: &mut Random) -> i32 {
     let n = if random.once_in(10) { GREATEST - random.below(2) as u32 } else { random.within(1, 12) as u32 };
@@ -295,8 +330,15 @@ fn reify(random: &mut Random) -> Call {
     }
 }
 
-/// A history of about so many calls, with the answers that they must get.
-pub fn history(random: &mut Random, calls: usize) -> Vec<Turn> {
+/// Calls with the answers that they must get, and how many questions of what the clauses mean were answered.
+#[derive(Clone, Debug, PartialEq, Eq)]
+pub struct History {
+    pub turns: Vec<Turn>,
+    pub tried: usize,
+}
+
+/// A history of about so many calls.
+pub fn history(random: &mut Random, calls: usize) -> History {
     let plan = Plan::new(random);
     let mut machine = Machine::judge();
     let mut turns: Vec<Turn> = Vec::new();
@@ -308,6 +350,9 @@ pub fn history(random: &mut Random, calls: usize) -> Vec<Turn> {
         play(&mut machine, &mut turns, call);
     }
     while turns.len() < wanted {
+        if random.once_in(40) {
+            spoil(random, &plan, &mut machine, &mut turns);
+        }
         let call = plan.call(random, &machine);
         let Some(answer) = play(&mut machine, &mut turns, call) else { continue };
         used.push(machine.used());
@@ -319,11 +364,26 @@ pub fn history(random: &mut Random, calls: usize) -> Vec<Turn> {
     if turns.last().is_some_and(|(call, _)| *call != Call::Dump) {
         play(&mut machine, &mut turns, Call::Dump);
     }
-    if random.once_in(3) {
-        tightened(random, &turns, &used).unwrap_or(turns)
-    } else {
-        turns
+    let tried = machine.try_meaning();
+    let tight = if random.once_in(3) { tightened(random, &turns, &used) } else { None };
+    History { turns: tight.unwrap_or(turns), tried }
+}
+
+/// Some calls over spoilt memory, then it is put right. A call that document 01 says nothing of is not made.
+fn spoil(random: &mut Random, plan: &Plan, machine: &mut Machine, turns: &mut Vec<Turn>) {
+    let Some((wrong, right)) = spoilt_memory(random, machine) else { return };
+    play(machine, turns, wrong);
+    for _ in 0..random.within(1, 5) {
+        match plan.call(random, machine) {
+            // these would replace what is spoilt
+            Call::Start(_) | Call::Over => {}
+            call => {
+                play(machine, turns, call);
+            }
+        }
     }
+    play(machine, turns, Call::Dump);
+    play(machine, turns, right);
 }
 
 /// Makes the call and keeps it, unless it does not fit the text.

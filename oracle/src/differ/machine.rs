@@ -5,15 +5,18 @@
 //! the encoder's place and are its words written. So the words of a dropped record, and those above a fill or a count,
 //! stay as they were (docs/DECISIONS.md, 5).
 
-use super::call::{direction_number, order_number, Call, Side, Way};
+use super::atomics::{imply, reify};
+use super::call::{Call, Field, Side, Table, Way};
+use super::damage::{self, Fields};
+use super::meaning;
 use super::reading::{
-    asked_down, asked_up, bad_constraint, bad_term, hash, is_literal, literal_alone, no_constraint, records_after, sum,
-    unsatisfiable, GREATEST, MOST_BOUNDS, MOST_NODES, MOST_OUTPUTS, MOST_PENDING, MOST_TOTAL,
+    asked_down, asked_up, bad_term, hash, records_after, sum, GREATEST, MOST_BOUNDS, MOST_NODES, MOST_OUTPUTS,
+    MOST_PENDING, MOST_TOTAL,
 };
 use crate::encoder::caught;
 use crate::encodings::{CollectClauses, EnforceError, Flat};
 use crate::instances::Source;
-use crate::text::{Adder, Build, Constraint, Direction, Enforced, Linear, Order};
+use crate::text::{Adder, Build, Constraint, Enforced};
 
 /// What an answer rests on.
 #[derive(Clone, Copy, Debug, PartialEq, Eq)]
@@ -39,6 +42,10 @@ pub enum Unfit {
     NoEncoder,
     /// The text would keep a very long list of comparators, or its `reserve` walk too many paths.
     TooCostly,
+    /// A word is spoilt in a way that document 01 does not call damage.
+    Odd,
+    /// A table has no such word.
+    NoWord,
 }
 
 /// The longest list of comparators that the text is made to keep.
@@ -53,10 +60,15 @@ struct Party {
     main: Box<dyn Adder>,
     /// The unchanged build, as long as the calls were upward ones.
     beside: Option<Box<dyn Adder>>,
+    /// What the player's state holds; a trace can spoil it.
+    fields: Fields,
     left: u32,
-    fill: usize,
+    /// The fill as accepted calls left it.
+    filled: u64,
     clauses: usize,
     drawn: u32,
+    /// All terms of accepted calls.
+    terms: Vec<(u32, i32)>,
     /// Whether any encoding was made, and how many starts over: the text's entry points take turns.
     encoded: bool,
     overs: u64,
@@ -111,7 +123,16 @@ fn same(one: &dyn Adder, other: &dyn Adder) -> bool {
         && one.bounds() == other.bounds()
 }
 
-fn paper(line: impl Into<String>) -> Answer {
+/// What of the lent memory a call is lent, besides the state.
+#[derive(Clone, Copy, PartialEq, Eq)]
+enum Lent {
+    Nothing,
+    Bounds,
+    Tables,
+    All,
+}
+
+pub fn paper(line: impl Into<String>) -> Answer {
     Answer { line: line.into(), witness: Witness::Paper }
 }
 
@@ -147,15 +168,20 @@ impl Machine {
             Call::Over => self.over(),
             Call::Enforce(side, value) => self.enforce(*side, *value),
             Call::Report => {
+                if self.damaged(Lent::Nothing)? {
+                    return Ok(paper("r 12"));
+                }
                 let party = self.party()?;
                 let line = format!("r 0 {} {} {}", party.main.total(), party.clauses, party.drawn);
                 Ok(Answer { line, witness: self.witness() })
             }
             Call::Dump => self.dump(),
-            Call::Imply { kind, len, fill, a, b } => Ok(self.imply(*kind, *len, *fill, a, b)),
+            Call::Word(table, place, value) => self.spoil_word(*table, *place, *value),
+            Call::Field(field, value) => self.spoil_field(*field, *value),
+            Call::Imply { kind, len, fill, a, b } => Ok(imply(*kind, *len, *fill, a, b)),
             Call::Reify { direction, order, bound, literal, len, terms } => {
                 let given = Constraint { order: *order, bound: *bound, terms: terms.clone() };
-                Ok(self.reify(*direction, &given, *literal, *len))
+                Ok(reify(self.build, *direction, &given, *literal, *len))
             }
         }
     }
@@ -199,7 +225,108 @@ impl Machine {
 
     /// Nodes, records and words in use.
     pub fn used(&self) -> (usize, usize, usize) {
-        self.party.as_ref().map_or((0, 0, 0), |p| (p.main.nodes(), p.main.bounds().len(), p.fill))
+        self.party.as_ref().map_or((0, 0, 0), |p| (p.main.nodes(), p.main.bounds().len(), p.fields.fill as usize))
+    }
+
+    pub fn clauses(&self) -> usize {
+        self.party.as_ref().map_or(0, |p| p.clauses)
+    }
+
+    /// A word or field as it stands; `None` where there is no such word.
+    pub fn word(&self, table: Table, place: u64) -> Option<u32> {
+        let words = match table {
+            Table::Node => &self.nodes[..],
+            Table::Bound => &self.bounds[..],
+            Table::Output => &self.party.as_ref()?.fields.outputs[..],
+        };
+        words.get(place as usize).copied()
+    }
+
+    pub fn field(&self, field: Field) -> u64 {
+        let fields = self.party.as_ref().map_or(Fields::default(), |p| p.fields.clone());
+        match field {
+            Field::Fill => fields.fill,
+            Field::Nodes => fields.nodes,
+            Field::Bounds => fields.bounds,
+            Field::Width => fields.width,
+        }
+    }
+
+    /// The lengths of the node table, the bound table and the buffer.
+    pub fn lengths(&self) -> (usize, usize, usize) {
+        (self.nodes.len(), self.bounds.len(), self.buffer.len())
+    }
+
+    /// Tries what the clauses mean under every choice of the inputs, where they are few and nothing is pending or
+    /// spoilt; how many questions were answered.
+    pub fn try_meaning(&self) -> usize {
+        const MOST_INPUTS: usize = 5;
+        const MOST_WORDS: u64 = 2_500;
+        let Some(party) = &self.party else { return 0 };
+        let spoilt = !matches!(self.damaged(Lent::All), Ok(false));
+        let many = meaning::inputs(&party.terms).len() > MOST_INPUTS || party.fields.fill > MOST_WORDS;
+        if self.pending() || spoilt || many {
+            return 0;
+        }
+        let values = self.records().into_iter().map(|[value, ..]| u64::from(value));
+        let answered = |value: u64, answer: Enforced| Some(Some((value, answer.ok()??)));
+        let uppers = values.clone().filter_map(|v| answered(v, party.main.enforce_ub(v as usize)));
+        let lowers = values.filter_map(|v| answered(v + 1, party.main.enforce_lb(v as usize + 1)));
+        let uppers: Vec<_> = [None].into_iter().chain(uppers.take(3)).collect();
+        let lowers: Vec<_> = [None].into_iter().chain(lowers.take(3)).collect();
+        let words = &self.buffer[..party.fields.fill as usize];
+        meaning::asked(words, &party.terms, &lowers, &uppers)
+            .unwrap_or_else(|wrong| panic!("the mended text's clauses are wrong: terms {:?}, {wrong}", party.terms))
+    }
+
+    // ---- damage
+
+    fn spoil_word(&mut self, table: Table, place: u64, value: u32) -> Result<Answer, Unfit> {
+        let words = match table {
+            Table::Node => &mut self.nodes[..],
+            Table::Bound => &mut self.bounds[..],
+            Table::Output => &mut self.party.as_mut().ok_or(Unfit::NoEncoder)?.fields.outputs[..],
+        };
+        *words.get_mut(place as usize).ok_or(Unfit::NoWord)? = value;
+        Ok(paper("r 0"))
+    }
+
+    fn spoil_field(&mut self, field: Field, value: u64) -> Result<Answer, Unfit> {
+        let fields = &mut self.party.as_mut().ok_or(Unfit::NoEncoder)?.fields;
+        match field {
+            Field::Fill => fields.fill = value,
+            Field::Nodes => fields.nodes = value,
+            Field::Bounds => fields.bounds = value,
+            Field::Width => fields.width = value,
+        }
+        Ok(paper("r 0"))
+    }
+
+    /// Whether a call that is lent these parts answers 12: "tested on the state and the parts lent". Where it does not,
+    /// but something is not as the text has it, nothing is said of the call.
+    fn damaged(&self, lent: Lent) -> Result<bool, Unfit> {
+        let party = self.party()?;
+        let fields = &party.fields;
+        let (bounds, tables, all) =
+            (lent != Lent::Nothing, matches!(lent, Lent::Tables | Lent::All), lent == Lent::All);
+        if damage::state(fields)
+            || bounds && damage::bounds(fields.bounds, &self.bounds)
+            || tables && damage::nodes(fields.nodes, &self.nodes)
+            || all && damage::buffer(fields.fill, party.clauses as u64, self.buffer.len() as u64)
+            || all && damage::source(self.source, party.left)
+        {
+            return Ok(true);
+        }
+        let records = party.main.bounds().concat();
+        let nodes = party.main.node_words();
+        let odd = bounds && self.bounds.get(..3 * fields.bounds as usize) != Some(&records[..])
+            || tables && self.nodes.get(..8 * fields.nodes as usize) != Some(&nodes[..])
+            || all && (*fields != Fields { fill: fields.fill, ..held(&*party.main) } || fields.fill != party.filled);
+        if odd {
+            Err(Unfit::Odd)
+        } else {
+            Ok(false)
+        }
     }
 
     // ---- the calls
@@ -213,10 +340,12 @@ impl Machine {
             first,
             main: self.build.adder(),
             beside: (self.build == Build::Mended).then(|| Build::Unchanged.adder()),
+            fields: Fields::default(),
             left: first,
-            fill: 0,
+            filled: 0,
             clauses: 0,
             drawn: 0,
+            terms: Vec::new(),
             encoded: false,
             overs: 0,
         });
@@ -225,6 +354,9 @@ impl Machine {
 
     /// "12; then 1 for any term of the list; then 2, then 3, each over the whole list"
     fn add(&mut self, terms: &[(u32, i32)]) -> Result<Answer, Unfit> {
+        if self.damaged(Lent::Nothing)? {
+            return Ok(paper("r 12"));
+        }
         let party = self.party.as_mut().ok_or(Unfit::NoEncoder)?;
         if let Some(place) = bad_term(party.first, terms) {
             return Ok(paper(format!("r 1 {place}")));
@@ -247,6 +379,7 @@ impl Machine {
         } else {
             party.main.add(terms);
         }
+        party.terms.extend(terms);
         if let Some(beside) = &mut party.beside {
             beside.add(terms);
             assert_eq!(party.main.pending(), beside.pending(), "the builds disagree at: add");
@@ -254,16 +387,12 @@ impl Machine {
         Ok(self.answer("r 0"))
     }
 
-    fn source_damaged(&self, party: &Party) -> bool {
-        self.source < party.left || self.source > GREATEST + 1
-    }
-
     /// "12; then 7 to 11 ascending, each worked out as if the later limits were endless"
     fn encode(&mut self, way: Way, from: u64, to: u64) -> Result<Answer, Unfit> {
-        let party = self.party()?;
-        if self.source_damaged(party) {
+        if self.damaged(Lent::All)? {
             return Ok(paper("r 12"));
         }
+        let party = self.party()?;
         let total = party.main.total() as u64;
         let ups = if way == Way::Down { 0..0 } else { asked_up(from, to, total) };
         let downs = if way == Way::Up { 0..0 } else { asked_down(from, to, total) };
@@ -305,10 +434,10 @@ impl Machine {
 
     /// "12; then 7 to 11 ascending"; 7 and 11 cannot be.
     fn reserve(&mut self) -> Result<Answer, Unfit> {
-        let party = self.party()?;
-        if self.source_damaged(party) {
+        if self.damaged(Lent::All)? {
             return Ok(paper("r 12"));
         }
+        let party = self.party()?;
         let mut built = party.main.boxed_clone();
         built.build();
         if built.reserve_walk() > MOST_WALK {
@@ -333,7 +462,7 @@ impl Machine {
             Some(9)
         } else if trial.source.next > GREATEST + 1 {
             Some(10)
-        } else if party.fill + trial.clauses.words().len() > self.buffer.len() {
+        } else if party.fields.fill as usize + trial.clauses.words().len() > self.buffer.len() {
             Some(11)
         } else {
             None
@@ -344,8 +473,9 @@ impl Machine {
     fn accept(&mut self, trial: Trial, beside: Option<Trial>, asks: bool) {
         let party = self.party.as_mut().expect("an encoder");
         let words = trial.clauses.words();
-        self.buffer[party.fill..party.fill + words.len()].copy_from_slice(words);
-        party.fill += words.len();
+        let fill = party.fields.fill as usize;
+        self.buffer[fill..fill + words.len()].copy_from_slice(words);
+        party.filled += words.len() as u64;
         party.clauses += trial.clauses.n_clauses();
         party.drawn += trial.source.next - self.source;
         party.left = trial.source.next;
@@ -354,6 +484,7 @@ impl Machine {
             party.beside = beside.map(|t| t.adder);
             party.encoded = true;
         }
+        party.fields = Fields { fill: party.filled, ..held(&*party.main) };
         self.source = trial.source.next;
         self.write_records();
     }
@@ -368,6 +499,9 @@ impl Machine {
 
     /// The text's `encode_ub` or `encode_lb`, in turn, over an empty range.
     fn over(&mut self) -> Result<Answer, Unfit> {
+        if self.damaged(Lent::Tables)? {
+            return Ok(paper("r 12"));
+        }
         let party = self.party.as_mut().ok_or(Unfit::NoEncoder)?;
         let (mut clauses, mut source) = (Flat::default(), Source { next: self.source.max(1) });
         if party.overs % 2 == 0 {
@@ -377,7 +511,8 @@ impl Machine {
         }
         party.overs += 1;
         party.beside = None;
-        party.fill = 0;
+        party.filled = 0;
+        party.fields.fill = 0;
         party.clauses = 0;
         self.write_records();
         Ok(self.answer("r 0"))
@@ -385,6 +520,9 @@ impl Machine {
 
     /// "12, 5, 4"
     fn enforce(&self, side: Side, value: u64) -> Result<Answer, Unfit> {
+        if self.damaged(Lent::Bounds)? {
+            return Ok(paper("r 12"));
+        }
         let party = self.party()?;
         let ask = |adder: &dyn Adder| match side {
             Side::Upper => adder.enforce_ub(value as usize),
@@ -407,99 +545,39 @@ impl Machine {
 
     fn dump(&self) -> Result<Answer, Unfit> {
         let party = self.party()?;
-        let outputs = party.main.outputs();
-        let mut places = [0; MOST_OUTPUTS];
-        places[..outputs.len()].copy_from_slice(&outputs);
+        let fields = &party.fields;
         let counts = [
-            party.main.total(),
-            party.main.pending().len(),
-            outputs.len(),
-            party.main.nodes(),
-            party.main.bounds().len(),
-            party.fill,
-            party.clauses,
-            party.drawn as usize,
-            self.source as usize,
+            party.main.total() as u64,
+            party.main.pending().len() as u64,
+            fields.width,
+            fields.nodes,
+            fields.bounds,
+            fields.fill,
+            party.clauses as u64,
+            u64::from(party.drawn),
+            u64::from(self.source),
         ];
         let hashes = [
             hash(self.nodes.iter().copied()),
             hash(self.bounds.iter().copied()),
             hash(self.buffer.iter().map(|w| *w as u32)),
-            hash(places),
+            hash(fields.outputs),
         ];
         let numbers = counts.iter().map(|n| n.to_string()).chain(hashes.iter().map(|h| h.to_string()));
         Ok(self.answer(format!("d {}", numbers.collect::<Vec<_>>().join(" "))))
     }
+}
 
-    // ---- implications and reifications
-
-    /// "12 for a fill above the buffer, then 1 (places run over the first argument, then the second), then 11"
-    fn imply(&self, kind: u32, len: u64, fill: u64, a: &[i32], b: &[i32]) -> Answer {
-        let mut buffer = vec![9i32; len as usize];
-        let shown = |buffer: &[i32]| hash(buffer.iter().map(|w| *w as u32));
-        if fill > len {
-            return paper(format!("r 12 {}", shown(&buffer)));
-        }
-        if let Some(place) = a.iter().chain(b).position(|l| !is_literal(*l)) {
-            return paper(format!("r 1 {place} {}", shown(&buffer)));
-        }
-        let (mut clauses, mut mended) = (Flat::default(), Flat::default());
-        Build::Unchanged.imply(kind, a, b, &mut clauses);
-        Build::Mended.imply(kind, a, b, &mut mended);
-        assert_eq!(clauses.words(), mended.words(), "the builds disagree at: imp {kind}");
-        let (from, to) = (fill as usize, fill as usize + clauses.words().len());
-        if to > buffer.len() {
-            return Answer { line: format!("r 11 {}", shown(&buffer)), witness: Witness::Unchanged };
-        }
-        buffer[from..to].copy_from_slice(clauses.words());
-        Answer { line: format!("r 0 {to} {}", shown(&buffer)), witness: Witness::Unchanged }
-    }
-
-    /// "14 (the literal itself included), 6, 5, 11"
-    fn reify(&self, direction: Direction, given: &Constraint, literal: i32, len: u64) -> Answer {
-        if bad_constraint(given, literal) {
-            return paper("r 14");
-        }
-        if given.order == Order::Equality {
-            return paper("r 6");
-        }
-        if unsatisfiable(given) {
-            return paper("r 5");
-        }
-        let (made, witness) = self.reified(direction, given, literal);
-        if made.terms.len() as u64 > len {
-            return Answer { line: "r 11".to_string(), witness };
-        }
-        let terms: String = made.terms.iter().map(|(weight, l)| format!(" {weight} {l}")).collect();
-        Answer { line: format!("r 0 {} {}{terms}", order_number(made.order), made.bound), witness }
-    }
-
-    fn reified(&self, direction: Direction, given: &Constraint, literal: i32) -> (Linear, Witness) {
-        let wrong = (direction, given.order) == (Direction::ImpliesLit, Order::Upper)
-            && i64::from(given.bound) >= sum(&given.terms) as i64;
-        // "B <= 0: no terms, >= 0", "B <= 0: lit >= 1": the text would add a weight of 0 or less, or one above the sum
-        if given.order == Order::Lower && given.bound <= 0 {
-            let decided = match direction {
-                Direction::LitImplies => no_constraint(),
-                Direction::ImpliesLit => literal_alone(literal),
-            };
-            return (decided, Witness::Paper);
-        }
-        let build = if wrong { self.build } else { Build::Unchanged };
-        let mut made = build.reify_pb(direction, given, literal);
-        if self.build == Build::Mended {
-            let cardinality = given.terms.iter().all(|(weight, _)| *weight == 1);
-            let mended = Build::Mended.reify_pb(direction, given, literal);
-            assert_eq!(made, mended, "the builds disagree at: reify {}", direction_number(direction));
-            let counted = cardinality.then(|| build.reify_card(direction, given, literal));
-            assert!(
-                counted.is_none_or(|c| c == made),
-                "the two forms disagree at: reify {}",
-                direction_number(direction)
-            );
-        }
-        // "with S = 0 an upper "lit implies" adds none": a weight of 0 is no term
-        made.terms.retain(|(weight, _)| *weight != 0);
-        (made, if wrong { Witness::Mended } else { Witness::Unchanged })
+/// The fields that the text's encoder decides.
+fn held(adder: &dyn Adder) -> Fields {
+    let outputs = adder.outputs();
+    let mut places = [0; MOST_OUTPUTS];
+    places[..outputs.len()].copy_from_slice(&outputs);
+    Fields {
+        outputs: places,
+        width: outputs.len() as u64,
+        nodes: adder.nodes() as u64,
+        bounds: adder.bounds().len() as u64,
+        fill: 0,
     }
 }
