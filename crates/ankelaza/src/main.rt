@@ -8,7 +8,7 @@ use plan::Reading;
 use printing::Part;
 
 // What was read so far, and how the last read went.
-struct Read {
+struct Progress {
     reading: Reading,
     next: Next,
 }
@@ -42,8 +42,8 @@ fn main() {
 
 // The whole input. A proved loop has to end, and nothing says that an input does: the turns count down from a number that no run uses
 // up.
-fn read(nodes: &mut [u32], bounds: &mut [u32], clauses: &mut [i32], asked: &mut [u32]) -> Read {
-    let mut r = Read {
+fn read(nodes: &mut [u32], bounds: &mut [u32], clauses: &mut [i32], asked: &mut [u32]) -> Progress {
+    let mut r = Progress {
         reading: plan::begin(),
         next: Next::More,
     };
@@ -55,7 +55,7 @@ fn read(nodes: &mut [u32], bounds: &mut [u32], clauses: &mut [i32], asked: &mut 
     r
 }
 
-fn goes_on(r: Read) -> bool {
+fn goes_on(r: Progress) -> bool {
     let next = r.next;
     match next {
         Next::More => true,
@@ -65,48 +65,72 @@ fn goes_on(r: Read) -> bool {
 
 // One block.
 fn read_some(
-    r: Read,
+    r: Progress,
     nodes: &mut [u32],
     bounds: &mut [u32],
     clauses: &mut [i32],
     asked: &mut [u32],
-) -> Read {
+) -> Progress {
     let old = r.reading;
     let mut block = io::buffer();
     let got = libc::read(STDIN_FILENO, &mut block);
     if got < 0 {
-        return Read {
+        return Progress {
             reading: old,
             next: Next::Failed,
         };
     }
     if got == 0 {
-        return Read {
+        return Progress {
             reading: old,
             next: Next::End,
         };
     }
     let n = io::count(got, &block);
     let reading = plan::read_block(old, nodes, bounds, clauses, asked, &block[..n]);
-    Read {
+    Progress {
         reading,
         next: Next::More,
     }
 }
 
+// Where the writing stands after a piece, and whether the piece was written.
+struct Step {
+    part: Part,
+    is_written: bool,
+}
+
+// One piece.
+fn write_some(plan: Plan, part: Part, bounds: &[u32], clauses: &[i32], asked: &[u32]) -> Step {
+    let mut out = io::buffer();
+    let w = printing::write_piece(plan, part, bounds, clauses, asked, &mut out);
+    let after = w.part;
+    let n = io::count(w.len as isize, &out);
+    let is_written = io::write_all(STDOUT_FILENO, &out[..n]);
+    Step {
+        part: after,
+        is_written,
+    }
+}
+
 // Piece after piece, to the end or to a write that fails; whether all was written.
 fn write(plan: Plan, bounds: &[u32], clauses: &[i32], asked: &[u32]) -> bool {
-    let mut part = printing::first_part(plan);
+    let part = printing::first_part(plan);
+    let mut s = Step {
+        part,
+        is_written: true,
+    };
     let mut turns = u64::MAX;
-    while turns > 0 && !printing::finished(part) {
-        let mut out = io::buffer();
-        let w = printing::write_piece(plan, part, bounds, clauses, asked, &mut out);
-        let n = w.len;
-        if !io::write_all(STDOUT_FILENO, &out[..n]) {
-            return false;
-        }
-        part = w.part;
+    while turns > 0 && left(s) {
+        let part = s.part;
+        s = write_some(plan, part, bounds, clauses, asked);
         turns -= 1;
     }
-    true
+    s.is_written
+}
+
+// Whether a piece is left, and every piece before it was written.
+fn left(s: Step) -> bool {
+    let part = s.part;
+    s.is_written && !printing::finished(part)
 }

@@ -3,6 +3,7 @@
 ghost use mathlib.Core.Path.{_≡_};
 ghost use lib.ListN.{length};
 use legends::Listing;
+use legends::Part;
 use libc::STDERR_FILENO;
 use libc::STDIN_FILENO;
 use libc::STDOUT_FILENO;
@@ -10,7 +11,7 @@ use plan::Plan;
 use plan::Reading;
 
 // What was read so far, and how the last read went.
-struct Read {
+struct Progress {
     reading: Reading,
     listing: Listing,
     next: Next,
@@ -73,10 +74,10 @@ fn read(
     clauses: &mut [i32],
     asked: &mut [u32],
     terms: &mut [u32],
-) -> Read {
+) -> Progress {
     let reading = plan::begin();
     let listing = legends::lists::begin_list();
-    let mut r = Read {
+    let mut r = Progress {
         reading,
         listing,
         next: Next::More,
@@ -89,7 +90,7 @@ fn read(
     r
 }
 
-fn goes_on(r: Read) -> bool {
+fn goes_on(r: Progress) -> bool {
     let next = r.next;
     match next {
         Next::More => true,
@@ -99,26 +100,26 @@ fn goes_on(r: Read) -> bool {
 
 // One block.
 fn read_some(
-    r: Read,
+    r: Progress,
     nodes: &mut [u32],
     bounds: &mut [u32],
     clauses: &mut [i32],
     asked: &mut [u32],
     terms: &mut [u32],
-) -> Read {
+) -> Progress {
     let old = r.reading;
     let list = r.listing;
     let mut block = io::buffer();
     let got = libc::read(STDIN_FILENO, &mut block);
     if got < 0 {
-        return Read {
+        return Progress {
             reading: old,
             listing: list,
             next: Next::Failed,
         };
     }
     if got == 0 {
-        return Read {
+        return Progress {
             reading: old,
             listing: list,
             next: Next::End,
@@ -127,10 +128,48 @@ fn read_some(
     let n = io::count(got, &block);
     let reading = plan::read_block(old, nodes, bounds, clauses, asked, &block[..n]);
     let listing = legends::lists::list_block(list, terms, &block[..n]);
-    Read {
+    Progress {
         reading,
         listing,
         next: Next::More,
+    }
+}
+
+// Where the writing stands after a piece, and whether the piece was written.
+struct Step {
+    part: Part,
+    is_written: bool,
+}
+
+// One piece.
+fn write_some(
+    plan: Plan,
+    part: Part,
+    nodes: &[u32],
+    bounds: &[u32],
+    asked: &[u32],
+    terms: &[u32],
+    count: u64,
+    bits: &[u32],
+) -> Step {
+    let mut out = io::buffer();
+    let w = legends::write_piece(
+        plan,
+        part,
+        nodes,
+        bounds,
+        asked,
+        terms,
+        count,
+        bits,
+        &mut out,
+    );
+    let after = w.part;
+    let n = io::count(w.len as isize, &out);
+    let is_written = io::write_all(STDOUT_FILENO, &out[..n]);
+    Step {
+        part: after,
+        is_written,
     }
 }
 
@@ -144,27 +183,22 @@ fn write(
     count: u64,
     bits: &[u32],
 ) -> bool {
-    let mut part = legends::first_part(plan);
+    let part = legends::first_part(plan);
+    let mut s = Step {
+        part,
+        is_written: true,
+    };
     let mut turns = u64::MAX;
-    while turns > 0 && !legends::finished(part) {
-        let mut out = io::buffer();
-        let w = legends::write_piece(
-            plan,
-            part,
-            nodes,
-            bounds,
-            asked,
-            terms,
-            count,
-            bits,
-            &mut out,
-        );
-        let n = w.len;
-        if !io::write_all(STDOUT_FILENO, &out[..n]) {
-            return false;
-        }
-        part = w.part;
+    while turns > 0 && left(s) {
+        let part = s.part;
+        s = write_some(plan, part, nodes, bounds, asked, terms, count, bits);
         turns -= 1;
     }
-    true
+    s.is_written
+}
+
+// Whether a piece is left, and every piece before it was written.
+fn left(s: Step) -> bool {
+    let part = s.part;
+    s.is_written && !legends::finished(part)
 }
