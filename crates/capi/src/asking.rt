@@ -86,7 +86,7 @@ pub extern "C" fn ankelaza_enforce_lb(
 }
 
 // Three numbers, in an answer that has their room.
-pub fn tell_three(told: &mut [u64], a: u64, b: u64, c: u64) -> u32
+pub(crate) fn tell_three(told: &mut [u64], a: u64, b: u64, c: u64) -> u32
     requires { ⌜ length (now told) ≡ 3 ⌝ }
     ensures { λ r. ⌜ answer r (now (told .exit)) ≡ answer 0 (a ∷ b ∷ c ∷ []) ⌝ }
 {

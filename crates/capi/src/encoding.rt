@@ -18,7 +18,7 @@ use party::Reply;
 use party::State;
 
 // The reply's number; the state is stored where it is 0.
-pub fn settle(words: &mut [u32], reply: Reply, state: State) -> u32
+pub(crate) fn settle(words: &mut [u32], reply: Reply, state: State) -> u32
     requires { ⌜ length (now words) ≡ 318 ⌝ }
     ensures { λ r. ⌜ settled r (now (words .exit)) ≡ settle (replyOf reply) (partyOf (state .party)) (sharedOf (state .shared)) (now (words .entry)) ⌝ }
 {

@@ -78,7 +78,7 @@ fn outputs_at(words: &[u32]) -> [u32; 48]
     r
 }
 
-pub fn read_state(words: &[u32]) -> State
+pub(crate) fn read_state(words: &[u32]) -> State
     requires { ⌜ length (now words) ≡ 318 ⌝ }
     ensures { λ r. ⌜ r ≡ stateAt (now (words .entry)) ⌝ }
 {
@@ -151,7 +151,7 @@ fn store_terms(words: &mut [u32], p: Party)
     put(words, 142, &literals);
 }
 
-pub fn store_state(words: &mut [u32], state: State)
+pub(crate) fn store_state(words: &mut [u32], state: State)
     requires { ⌜ length (now words) ≡ 318 ⌝ }
     ensures { λ _. ⌜ now (words .exit) ≡ wordsOf (partyOf (state .party)) (sharedOf (state .shared)) ⌝ }
 {

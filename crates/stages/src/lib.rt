@@ -1,5 +1,6 @@
-// Both directions of an encoding: the outputs emitted, then the asked values; on the lent tables, and first on scratch copies with a
-// buffer of no words, where the same code counts what it needs. What is required is what the refusals before have tested.
+// Both directions of an encoding: the outputs emitted, then the asked values; on the lent tables, and, unless the most that it can need
+// surely fits, first on scratch copies with a buffer of no words, where the same code counts what it needs. What is required is what
+// the refusals before have tested.
 ghost use mathlib.Core.Path.{_≡_};
 ghost use mathlib.Core.Bool.{true};
 ghost use mathlib.Core.List.{List};
