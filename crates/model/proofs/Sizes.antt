@@ -7,7 +7,7 @@ use mathlib.Core.Bool.{Bool, true, false, cond}
 use mathlib.Core.List.{List, [], _∷_, _++_}
 use mathlib.Core.Option.{Option, none, some}
 use Prim.Native.Nat.{ℕ, zero, suc, _+_, _*_, _/_, _%_, _^_, _≤_, _<_}
-use native.Mathlib.Nat.{zero-add, suc-mul, add-mul, mul-le-mul-right}
+use native.Mathlib.Nat.{zero-add, mul-suc, suc-mul, add-mul, mul-le-mul}
 use native.Mathlib.Omega.{arith}
 use native.Mathlib.Decide.{ℕ-discrete}
 use borrow.Author.Tests.{eqb-true, ltb-true, eq-eqb, eqb-false}
@@ -279,18 +279,22 @@ clause-words (some a) (some ls) b =
 flat-length : (cs ds : List (List Lit)) → length (flat (cs ++ ds)) ≡ length (flat cs) + length (flat ds)
 flat-length cs ds = ap length (flat-append cs ds) ∙ length-append (flat cs) (flat ds)
 
-rows-words : (δ : Dir) (os : Outs) (r : ℕ) (b : Lit) (len : ℕ) → length os ≤ len → length (flat (compareRows δ os r b)) ≤ length os * (len + 2)
+-- twice the words of rows: a row has a literal more than there are outputs above it, the bound's and its 0
+rows-step : (k : ℕ) → suc k * (suc k + 5) ≡ k * (k + 5) + 2 * (k + 3)
+rows-step k = let e : suc k * (suc k + 5) ≡ k * (suc k + 5) + (suc k + 5) = suc-mul k (suc k + 5) in omega (arith, e, mul-suc k (k + 5))
+
+rows-words : (δ : Dir) (os : Outs) (r : ℕ) (b : Lit) → 2 * length (flat (compareRows δ os r b)) ≤ length os * (length os + 5)
 unfolding flat
-rows-words δ [] r b len h = omega arith
-rows-words δ (o ∷ os) r b len h =
+rows-words δ [] r b = omega arith
+rows-words δ (o ∷ os) r b =
     omega (
       arith,
       flat-length (clauseOf (begins δ (r % 2) o) (higher os (r / 2)) b) (compareRows δ os (r / 2) b),
       clause-words (begins δ (r % 2) o) (higher os (r / 2)) b,
       begins-many δ (r % 2) o,
       higher-many os (r / 2),
-      rows-words δ os (r / 2) b len (omega arith),
-      suc-mul (length os) (len + 2),
+      rows-words δ os (r / 2) b,
+      rows-step (length os),
     )
 
 length-outs : (t ws : List ℕ) → length (outLits t ws) ≡ length ws
@@ -299,16 +303,18 @@ length-outs t (w ∷ ws) = ap suc (length-outs t ws)
 
 -- a comparator of at most len outputs: a row for each of them, or the unit clause
 abbrev pub comparatorWords : ℕ → ℕ
-comparatorWords len = (len + 1) * (len + 2)
+comparatorWords len = (len + 1) * (len + 4) / 2
 
 comparator-words : (δ : Dir) (t ws : List ℕ) (r : ℕ) (b : Lit) (len : ℕ) → length ws ≤ len → length (flat (comparator δ (outLits t ws) r b)) ≤ comparatorWords len
 unfolding comparator flat clauseWords
 comparator-words δ t ws r b len h = go δ
   where
-    rows : (δ : Dir) (r : ℕ) (b : Lit) → length (flat (compareRows δ (outLits t ws) r b)) + (len + 2) ≤ comparatorWords len
+    rows : (δ : Dir) (r : ℕ) (b : Lit) → length (flat (compareRows δ (outLits t ws) r b)) + 2 ≤ comparatorWords len
     rows δ r b =
         let l : length (outLits t ws) ≤ len = omega (arith, length-outs t ws) in
-        omega (arith, rows-words δ (outLits t ws) r b len l, mul-le-mul-right (len + 2) l, add-mul len 1 (len + 2))
+        let m : length (outLits t ws) * (length (outLits t ws) + 5) ≤ len * (len + 5) = mul-le-mul l (omega arith) in
+        let e : (len + 1) * (len + 4) ≡ len * (len + 5) + 4 = omega (arith, add-mul len 1 (len + 4), mul-suc len (len + 4)) in
+        omega (arith, rows-words δ (outLits t ws) r b, m, e)
 
     go : (δ : Dir) → length (flat (comparator δ (outLits t ws) r b)) ≤ comparatorWords len
     go iff = omega (arith, rows iff r b)

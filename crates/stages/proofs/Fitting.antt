@@ -1,7 +1,7 @@
 -- Where the most that an encoding can need fits, nothing is lacking. Assumes nothing.
 use mathlib.Core.Path.{_≡_, refl, sym, ap, _∙_}
 use mathlib.Core.List.{List, [], _∷_}
-use Prim.Native.Nat.{ℕ, _+_, _*_, _≤_, min}
+use Prim.Native.Nat.{ℕ, _+_, _*_, _/_, _≤_, min}
 use native.Mathlib.Nat.{mul-le-mul}
 use native.Mathlib.Omega.{arith}
 use lib.IntN.{ℤ}
@@ -52,15 +52,16 @@ surely-none s next t bs up down n len space hn hl h ws e =
     let outs : length (present (b .party .outputs)) ≤ len = omega (arith, ap (λ (x : Extended). length (present (x .outputs))) r, outputs-le (pending p) (p .outputs) (p .nodes) t) in
     let i : length (valuesOf up) + length (valuesOf down) ≡ up .n + down .n = omega (arith, length-run (up .base) (up .n), length-run (down .base) (down .n)) in
     let j : W .em .next ≤ b .next + 4 * b .party .nodes + (length (valuesOf up) + length (valuesOf down)) = work-numbers (valuesOf up) (valuesOf down) b in
-    let k : length (flat (W .em .sink)) ≤ 64 * b .party .nodes + (length (valuesOf up) + length (valuesOf down)) * ((len + 1) * (len + 2)) = work-words (valuesOf up) (valuesOf down) b len outs in
-    let l : length (flat (W .em .sink)) ≤ 64 * b .party .nodes + (up .n + down .n) * ((len + 1) * (len + 2)) = rw i at k in
+    let k : length (flat (W .em .sink)) ≤ 64 * b .party .nodes + (length (valuesOf up) + length (valuesOf down)) * ((len + 1) * (len + 4) / 2) = work-words (valuesOf up) (valuesOf down) b len outs in
+    let l : length (flat (W .em .sink)) ≤ 64 * b .party .nodes + (up .n + down .n) * ((len + 1) * (len + 4) / 2) = rw i at k in
     verdict-none (W .em .next) (s .shared .fill + length (flat (W .em .sink))) (length ws) (omega (arith, h .numbers, built-leaves m .next)) (omega (arith, h .words))
 
 -- the words of the values are far below a word's end
-pub rows-le : (len values : ℕ) → len ≤ 48 → values ≤ 2048 → ((len + 1) * (len + 2) ≤ 2450) × (values * ((len + 1) * (len + 2)) ≤ 5017600)
+pub rows-le : (len values : ℕ) → len ≤ 48 → values ≤ 2048 → ((len + 1) * (len + 4) ≤ 2548) × (values * ((len + 1) * (len + 4) / 2) ≤ 2609152)
 rows-le len values h k =
     let a : len + 1 ≤ 49 = omega arith in
-    let b : len + 2 ≤ 50 = omega arith in
-    let c : (len + 1) * (len + 2) ≤ 49 * 50 = mul-le-mul a b in
-    let d : values * ((len + 1) * (len + 2)) ≤ 2048 * (49 * 50) = mul-le-mul k c in
+    let b : len + 4 ≤ 52 = omega arith in
+    let c : (len + 1) * (len + 4) ≤ 49 * 52 = mul-le-mul a b in
+    let e : (len + 1) * (len + 4) / 2 ≤ 1274 = omega arith in
+    let d : values * ((len + 1) * (len + 4) / 2) ≤ 2048 * 1274 = mul-le-mul k e in
     (c, d)

@@ -2,7 +2,7 @@
 use mathlib.Core.Path.{_≡_}
 use mathlib.Core.Bool.{cond}
 use mathlib.Core.List.{List, _++_}
-use Prim.Native.Nat.{ℕ, _+_, _*_, _-_, _≤_, _<_}
+use Prim.Native.Nat.{ℕ, _+_, _*_, _/_, _-_, _≤_, _<_}
 use lib.Dec.{eqb, ltb}
 use lib.ListN.{length}
 use Rattle.model.specs.Limits.{greatest, mostTotal}
@@ -57,7 +57,7 @@ lacking ups downs m =
 -- for each of len outputs or the unit clause
 pub record Surely (next fill space n len values : ℕ) : Type 0 where
   pub numbers : next + (4 * n + values) ≤ greatest + 1
-  pub words : fill + (64 * n + values * ((len + 1) * (len + 2))) ≤ space
+  pub words : fill + (64 * n + values * ((len + 1) * (len + 4) / 2)) ≤ space
 
 -- the state after its work
 unfoldable pub workedOf : Party → Bounded → ℕ → State

@@ -227,7 +227,7 @@ fn surely_fits(
     if space < fill {
         return false;
     }
-    let rows = (len + 1) * (len + 2);
+    let rows = (len + 1) * (len + 4) / 2;
     64 * (n as usize) + values * rows <= space - fill
 }
 

@@ -1,6 +1,6 @@
 -- `surely_fits` tells that the most that is needed fits. Assumes nothing.
 use mathlib.Core.Bool.{false≢true}
-use Prim.Native.Nat.{_+_, _*_, _≤_}
+use Prim.Native.Nat.{_+_, _*_, _/_, _≤_}
 use native.Mathlib.Omega.{arith}
 use borrow.Author.Needs.{needs}
 use borrow.Author.Tests.{leb-true}
@@ -38,8 +38,8 @@ add-rows c = search needs
 add-rows-2 : tie.Need-add-rows-2
 add-rows-2 c = search needs
 
-rows : (c : tie.Else2) → ((c .before .before .args .len + 1) * (c .before .before .args .len + 2) ≤ 2450)
-    × ((c .before .before .args .ups + c .before .before .args .downs) * ((c .before .before .args .len + 1) * (c .before .before .args .len + 2)) ≤ 5017600)
+rows : (c : tie.Else2) → ((c .before .before .args .len + 1) * (c .before .before .args .len + 4) ≤ 2548)
+    × ((c .before .before .args .ups + c .before .before .args .downs) * ((c .before .before .args .len + 1) * (c .before .before .args .len + 4) / 2) ≤ 2609152)
 rows c = rows-le (c .before .before .args .len) (c .before .before .args .ups + c .before .before .args .downs) (omega arith) (omega arith)
 
 mul-rows : tie.Need-mul-rows
