@@ -112,25 +112,13 @@ module _ {S S′ : Type 0} (f : S → S′) (Low : ℕ → S → Type 0) where
 -- any map of what becomes of the clauses, where it goes with both ways to put them
 module _ {S S′ : Type 0} (f : S → S′) (up : ℕ → ℕ) (puts : List (List Lit) → S → S) (puts′ : List (List Lit) → S′ → S′)
     (each : (cs : List (List Lit)) (s : S) → f (puts cs s) ≡ puts′ cs (f s)) where
-  pub bound-map : (δ : Dir) (os vs : List ℕ) (w : Work S) → onWork f (boundAll up puts δ os vs w) ≡ boundAll up puts′ δ os vs (onWork f w)
-  bound-map δ os vs w = bound-step f (λ n s. Unit {0}) up up (λ n s l. (tt, refl)) puts puts′ (λ cs n s l. (tt, each cs s)) δ os vs .at w tt .1
-
   pub stage-map : (gates : List (List Lit) → S → S) (gates′ : List (List Lit) → S′ → S′) → ((cs : List (List Lit)) (s : S) → f (gates cs s) ≡ gates′ cs (f s))
       → (δ : Dir) (n : ℕ) (os vs : List ℕ) (w : Work S) → onWork f (stage up gates puts δ n os vs w) ≡ stage up gates′ puts′ δ n os vs (onWork f w)
   stage-map gates gates′ batch δ n os vs w =
       stage-step f (λ n s. Unit {0}) up up (λ n s l. (tt, refl)) puts puts′ (λ cs n s l. (tt, each cs s)) gates gates′ (λ cs n s l. (tt, batch cs s)) δ n os vs .at w tt .1
 
-pub emitted-map : {S S′ : Type 0} (f : S → S′) (up : ℕ → ℕ) (gates : List (List Lit) → S → S) (gates′ : List (List Lit) → S′ → S′) → ((cs : List (List Lit)) (s : S) → f (gates cs s) ≡ gates′ cs (f s))
-    → (δ : Dir) (n : ℕ) (os : List ℕ) (w : Work S) → onWork f (emitted up gates δ n os w) ≡ emitted up gates′ δ n os (onWork f w)
-unfolding emitted
-emitted-map f up gates gates′ batch δ n os w = ap (λ (e : Em _). wk e (w .bounds) (w .count)) (emit-map f up gates gates′ batch δ n os (w .em))
-
 -- the next number never falls
 module _ {S : Type 0} (up : ℕ → ℕ) (rises : (n : ℕ) → n ≤ up n) (puts : List (List Lit) → S → S) where
-  pub bound-rises : (δ : Dir) (os vs : List ℕ) (w : Work S) → w .em .next ≤ boundAll up puts δ os vs w .em .next
-  bound-rises δ os vs w =
-      bound-step (λ s. s) (λ n s. n ≤ boundAll up puts δ os vs w .em .next) up up (λ n s l. (omega (arith, rises n), refl)) puts puts (λ cs n s l. (l, refl)) δ os vs .at w (omega arith) .0
-
   pub stage-rises : (gates : List (List Lit) → S → S) (δ : Dir) (n : ℕ) (os vs : List ℕ) (w : Work S) → w .em .next ≤ stage up gates puts δ n os vs w .em .next
   stage-rises gates δ n os vs w =
       stage-step (λ s. s) (λ m s. m ≤ stage up gates puts δ n os vs w .em .next) up up (λ n s l. (omega (arith, rises n), refl)) puts puts (λ cs n s l. (l, refl)) gates gates (λ cs n s l. (l, refl)) δ n os vs .at w (omega arith) .0
@@ -142,14 +130,6 @@ module _ {S : Type 0} (limit : ℕ) (up up′ : ℕ → ℕ) (rises : (n : ℕ) 
       let h : n < limit = omega (arith, rises n) in
       (h, same n h)
 
-  pub bound-agrees : (δ : Dir) (os vs : List ℕ) (w : Work S) → boundAll up puts δ os vs w .em .next < limit → boundAll up puts δ os vs w ≡ boundAll up′ puts δ os vs w
-  bound-agrees δ os vs w h = bound-step (λ s. s) (λ n s. n < limit) up up′ (λ n s. counts-below n) puts puts (λ cs n s l. (l, refl)) δ os vs .at w h .1
-
-  pub stage-agrees : (gates : List (List Lit) → S → S) (δ : Dir) (n : ℕ) (os vs : List ℕ) (w : Work S) → stage up gates puts δ n os vs w .em .next < limit
-      → stage up gates puts δ n os vs w ≡ stage up′ gates puts δ n os vs w
-  stage-agrees gates δ n os vs w h =
-      stage-step (λ s. s) (λ n s. n < limit) up up′ (λ n s. counts-below n) puts puts (λ cs n s l. (l, refl)) gates gates (λ cs n s l. (l, refl)) δ n os vs .at w h .1
-
   pub stages-agrees : (gates : List (List Lit) → S → S) (n : ℕ) (os ups downs : List ℕ) (w : Work S) → stages up gates puts n os ups downs w .em .next < limit
       → stages up gates puts n os ups downs w ≡ stages up′ gates puts n os ups downs w
   stages-agrees gates n os ups downs w h =
@@ -157,32 +137,11 @@ module _ {S : Type 0} (limit : ℕ) (up up′ : ℕ → ℕ) (rises : (n : ℕ) 
 
 -- so the source's word counts as ℕ does where either's next number stays below its top
 module _ {S : Type 0} (puts : List (List Lit) → S → S) where
-  pub bound-plain : (δ : Dir) (os vs : List ℕ) (w : Work S) → (boundAll bump puts δ os vs w .em .next < 0xffff_ffff) ⊎ (boundAll plus1 puts δ os vs w .em .next < 0xffff_ffff)
-      → boundAll bump puts δ os vs w ≡ boundAll plus1 puts δ os vs w
-  bound-plain δ os vs w (inl h) = bound-agrees 0xffff_ffff bump plus1 bump-rises bump-plain puts δ os vs w h
-  bound-plain δ os vs w (inr h) = sym (bound-agrees 0xffff_ffff plus1 bump (λ n. omega arith) (λ n k. sym (bump-plain n k)) puts δ os vs w h)
-
-  pub stage-plain : (gates : List (List Lit) → S → S) (δ : Dir) (n : ℕ) (os vs : List ℕ) (w : Work S)
-      → (stage bump gates puts δ n os vs w .em .next < 0xffff_ffff) ⊎ (stage plus1 gates puts δ n os vs w .em .next < 0xffff_ffff)
-      → stage bump gates puts δ n os vs w ≡ stage plus1 gates puts δ n os vs w
-  stage-plain gates δ n os vs w (inl h) = stage-agrees 0xffff_ffff bump plus1 bump-rises bump-plain puts gates δ n os vs w h
-  stage-plain gates δ n os vs w (inr h) = sym (stage-agrees 0xffff_ffff plus1 bump (λ n. omega arith) (λ n k. sym (bump-plain n k)) puts gates δ n os vs w h)
-
   pub stages-plain : (gates : List (List Lit) → S → S) (n : ℕ) (os ups downs : List ℕ) (w : Work S)
       → (stages bump gates puts n os ups downs w .em .next < 0xffff_ffff) ⊎ (stages plus1 gates puts n os ups downs w .em .next < 0xffff_ffff)
       → stages bump gates puts n os ups downs w ≡ stages plus1 gates puts n os ups downs w
   stages-plain gates n os ups downs w (inl h) = stages-agrees 0xffff_ffff bump plus1 bump-rises bump-plain puts gates n os ups downs w h
   stages-plain gates n os ups downs w (inr h) = sym (stages-agrees 0xffff_ffff plus1 bump (λ n. omega arith) (λ n k. sym (bump-plain n k)) puts gates n os ups downs w h)
-
--- clauses in a list follow those before them; `flat-append` and `length-append` then add up their words and their number
-pub stage-follows : (up : ℕ → ℕ) (δ : Dir) (n : ℕ) (os vs : List ℕ) (w : Work Clauses)
-    → stage up follow follow δ n os vs w ≡ onWork (λ cs. w .em .sink ++ cs) (stage up follow follow δ n os vs (onWork (λ cs. []) w))
-stage-follows up δ n os vs w =
-    ap (λ (cs : Clauses). stage up follow follow δ n os vs (onWork (λ x. cs) w)) (sym (append-nil (w .em .sink)))
-    ∙ sym (stage-map (λ cs. w .em .sink ++ cs) up follow follow joins follow follow joins δ n os vs (onWork (λ cs. []) w))
-  where
-    joins : (cs ds : Clauses) → w .em .sink ++ (ds ++ cs) ≡ w .em .sink ++ ds ++ cs
-    joins cs ds = sym (append-assoc (w .em .sink) ds cs)
 
 -- ---- where all fits: the clauses stand from the fill on, and the numbers are sums
 abbrev pub laid : Sink → List (List Lit) → Sink
@@ -235,15 +194,6 @@ module _ (s : Sink) (k : s .clauses ≤ s .buffer .fill) where
       let e : length (flat (ds ++ cs)) ≡ length (flat ds) + length (flat cs) = ap length (flat-append ds cs) ∙ length-append (flat ds) (flat cs) in
       let fits : Fits (laid s ds) cs = rw (length-sets (s .buffer .words) (s .buffer .fill) (flat ds)) (omega arith, l .0 .1) in
       (((omega arith, l .0 .1), l .1), laid-more s ds cs ∙ sym (lays cs (laid s ds) (omega (arith, flat-long ds)) fits))
-
-  pub bound-fits : (δ : Dir) (os vs : List ℕ) (w : Work Clauses) → Fits s (boundAll plus1 follow δ os vs w .em .sink) → boundAll plus1 follow δ os vs w .em .next < 0xffff_ffff
-      → boundAll bump putEach δ os vs (onWork (laid s) w) ≡ onWork (laid s) (boundAll plus1 follow δ os vs w)
-  bound-fits δ os vs w h l = sym (bound-step (laid s) (Low s) plus1 bump (low-counts s) follow putEach (low-puts putEach each-laid) δ os vs .at w (h, l) .1)
-
-  pub stage-fits : (δ : Dir) (n : ℕ) (os vs : List ℕ) (w : Work Clauses) → Fits s (stage plus1 follow follow δ n os vs w .em .sink) → stage plus1 follow follow δ n os vs w .em .next < 0xffff_ffff
-      → stage bump putBatch putEach δ n os vs (onWork (laid s) w) ≡ onWork (laid s) (stage plus1 follow follow δ n os vs w)
-  stage-fits δ n os vs w h l =
-      sym (stage-step (laid s) (Low s) plus1 bump (low-counts s) follow putEach (low-puts putEach each-laid) follow putBatch (low-puts putBatch batch-laid) δ n os vs .at w (h, l) .1)
 
   pub stages-fits : (n : ℕ) (os ups downs : List ℕ) (w : Work Clauses) → Fits s (stages plus1 follow follow n os ups downs w .em .sink)
       → stages plus1 follow follow n os ups downs w .em .next < 0xffff_ffff
@@ -487,34 +437,6 @@ module _ {S : Type 0} (up : ℕ → ℕ) (puts : List (List Lit) → S → S) (�
     stage-records [] w room = omega arith
     stage-records (v ∷ vs) w room = bound-count (v ∷ vs) (emitted up gates δ n os w) room
 
--- a number is drawn for each new record, and none else
-module _ {S : Type 0} (puts : List (List Lit) → S → S) (δ : Dir) (os : List ℕ) where
-  one-draws : (v : ℕ) (w : Work S) → compared puts δ os v (recorded plus1 v w) .em .next + w .count ≡ w .em .next + compared puts δ os v (recorded plus1 v w) .count
-  unfolding recorded compared
-  one-draws v w = by-test (λ (x : Work S). x .em .next + w .count ≡ w .em .next + x .count) (markedIn δ (noted v (recorded plus1 v w))) (λ q. same) (λ q. same)
-    where
-      same : recorded plus1 v w .em .next + w .count ≡ w .em .next + recorded plus1 v w .count
-      same = by-test (λ (x : Work S). x .em .next + w .count ≡ w .em .next + x .count) (ltb (find (w .bounds) (w .count) v) (w .count)) (λ q. refl) (λ q. omega arith)
-
-  pub bound-draws : (vs : List ℕ) (w : Work S) → boundAll plus1 puts δ os vs w .em .next + w .count ≡ w .em .next + boundAll plus1 puts δ os vs w .count
-  bound-draws [] w = refl
-  bound-draws (v ∷ vs) w = omega (arith, bound-draws vs (compared puts δ os v (recorded plus1 v w)), one-draws v w)
-
-  pub bound-next : (vs : List ℕ) (w : Work S) → 3 * (w .count + missing (values w) vs) ≤ length (w .bounds) → boundAll plus1 puts δ os vs w .em .next ≡ w .em .next + missing (values w) vs
-  bound-next vs w room = omega (arith, bound-draws vs w, bound-count plus1 puts δ os vs w room)
-
--- both directions together
-module _ {S : Type 0} (up : ℕ → ℕ) (gates puts : List (List Lit) → S → S) (n : ℕ) (os ups downs : List ℕ) (w : Work S) (room : 3 * (w .count + missing (values w) (ups ++ downs)) ≤ length (w .bounds)) where
-  pub stages-records : (stages up gates puts n os ups downs w .count ≡ w .count + missing (values w) (ups ++ downs)) × (values (stages up gates puts n os ups downs w) ≡ learn (values w) (ups ++ downs))
-  stages-records =
-      let x : Work S = stage up gates puts iff n os ups w in
-      let m : missing (values w) (ups ++ downs) ≡ missing (values w) ups + missing (learn (values w) ups) downs = missing-append (values w) ups downs in
-      let e : values x ≡ learn (values w) ups = stage-values up puts iff os gates n ups w (omega arith) in
-      let d : missing (values x) downs ≡ missing (learn (values w) ups) downs = ap (λ (us : List ℕ). missing us downs) e in
-      let c : x .count ≡ w .count + missing (values w) ups = stage-records up puts iff os gates n ups w (omega arith) in
-      let r : 3 * (x .count + missing (values x) downs) ≤ length (x .bounds) = omega (arith, stage-length up puts iff os gates n ups w) in
-      (omega (arith, stage-records up puts onlyif os gates n downs x r), stage-values up puts onlyif os gates n downs x r ∙ ap (λ (us : List ℕ). learn us downs) e ∙ sym (learn-append (values w) ups downs))
-
 -- a build leaves the table of records, and drops the records where terms are pending
 pub built-bounds : (m : Machine) → built m .bounds ≡ m .bounds
 unfolding built
@@ -532,15 +454,6 @@ built-known m = go (pending (m .party)) m _ refl
         → ifPending ps (valuesFrom (m .bounds) 0 (m .party .bounds)) [] ≡ valuesFrom (ifPending ps m x .bounds) 0 (ifPending ps m x .party .bounds)
     go [] m x h = refl
     go (p ∷ ps) m x h = rw h
-
--- the records that an encoding asks for are those after its work
-pub work-records : (ups downs : List ℕ) (m : Machine) → 3 * recordsAfter ups downs m ≤ length (m .bounds) → work ups downs (built m) .count ≡ recordsAfter ups downs m
-unfolding work recordsAfter
-work-records ups downs m h =
-    let b : Machine = built m in
-    let w : Work Clauses = wk (em (b .nodes) (b .next) []) (b .bounds) (b .party .bounds) in
-    let e : length (known m) + missing (known m) (ups ++ downs) ≡ w .count + missing (values w) (ups ++ downs) = rw (built-known m, length-values (b .bounds) 0 (b .party .bounds)) in
-    stages-records plus1 follow follow (b .party .nodes) (present (b .party .outputs)) ups downs w (omega (arith, ap length (built-bounds m))) .0 ∙ sym e
 
 -- ---- the dry run: on a scratch table that holds the records in use, with any buffer, an encoding counts what the model's clauses come to
 -- the same state with another node table

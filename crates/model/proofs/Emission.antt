@@ -135,105 +135,22 @@ module _ {S S′ : Type 0} (f : S → S′) (up : ℕ → ℕ) where
 pub reserve-leaves : {S : Type 0} (up : ℕ → ℕ) (l : ℕ) (ws : List ℕ) (e : Em S) → reserveAll up l ws e .sink ≡ e .sink
 reserve-leaves up l ws e = sym (ap (λ (x : Em _). x .sink) (reserve-map (λ s. e .sink) up l ws e))
 
--- the gates' batches in a list: laid one after another they give any other emission
-abbrev pub snoc : List (List Lit) → List (List (List Lit)) → List (List (List Lit))
-snoc cs bs = bs ++ (cs ∷ [])
-
-pub emit-batches : {S : Type 0} (put : List (List Lit) → S → S) (s : S) (up : ℕ → ℕ) (δ : Dir) (l : ℕ) (ws : List ℕ) (e : Em (List (List (List Lit))))
-    → onSink (foldl (λ s cs. put cs s) s) (emitAll up snoc δ l ws e) ≡ emitAll up put δ l ws (onSink (foldl (λ s cs. put cs s) s) e)
-emit-batches put s up = emit-map (foldl (λ s cs. put cs s) s) up snoc put (λ cs bs. foldl-append (λ s cs. put cs s) s bs (cs ∷ []))
-
--- the dry run: a buffer of no words counts as any other
-abbrev pub forget : Sink → Sink
-forget s = record { buffer = buffer (s .buffer .fill) []; clauses = s .clauses }
-
-sets-nil : (i : ℕ) (ws : List ℤ) → sets [] i ws ≡ []
-sets-nil i [] = refl
-sets-nil i (w ∷ ws) = sets-nil (suc i) ws
-
-either : (t : Bool) (ws : List ℤ) → cond t ws ws ≡ ws
-either true ws = refl
-either false ws = refl
-
-lay-nil : (ws : List ℤ) (f : ℕ) → lay ws (buffer f []) ≡ buffer (raised f (length ws)) []
-unfolding lay
-lay-nil ws f = rw (sets-nil f ws, either (leb (f + length ws) 0) [])
-
-pub forget-put : (cs : List (List Lit)) (s : Sink) → forget (putBatch cs s) ≡ putBatch cs (forget s)
-unfolding putBatch lay
-forget-put cs s = rw (sym (lay-nil (flat cs) (s .buffer .fill)))
-
-pub dry-run : (up : ℕ → ℕ) (δ : Dir) (l : ℕ) (ws : List ℕ) (e : Em Sink) → onSink forget (emitAll up putBatch δ l ws e) ≡ emitAll up putBatch δ l ws (onSink forget e)
-dry-run up = emit-map forget up putBatch putBatch forget-put
-
 -- the clauses in one list
-abbrev pub append : List (List Lit) → List (List Lit) → List (List Lit)
-append cs ds = ds ++ cs
-
 pub flat-append : (cs ds : List (List Lit)) → flat (cs ++ ds) ≡ flat cs ++ flat ds
 unfolding flat
 flat-append [] ds = refl
 flat-append (c ∷ cs) ds = ap (λ (ws : List ℤ). clauseWords c ++ ws) (flat-append cs ds) ∙ sym (append-assoc (clauseWords c) (flat cs) (flat ds))
 
-put-append : (cs ds : List (List Lit)) (s : Sink) → lay (flat ds) (lay (flat cs) (s .buffer)) ≡ lay (flat cs ++ flat ds) (s .buffer) → putBatch (cs ++ ds) s ≡ putBatch ds (putBatch cs s)
-unfolding putBatch
-put-append cs ds s e = rw (flat-append cs ds, e, length-append cs ds, raised-twice (s .clauses) (length cs) (length ds))
-
-nil-append : (cs ds : List (List Lit)) (s : Sink) → putBatch (cs ++ ds) (forget s) ≡ putBatch ds (putBatch cs (forget s))
-nil-append cs ds s =
-    put-append cs ds (forget s)
-    (rw (
-      lay-nil (flat cs) (s .buffer .fill),
-      lay-nil (flat ds) (raised (s .buffer .fill) (length (flat cs))),
-      lay-nil (flat cs ++ flat ds) (s .buffer .fill),
-      raised-twice (s .buffer .fill) (length (flat cs)) (length (flat ds)),
-      length-append (flat cs) (flat ds),
-    ))
-
-put-none : (s : Sink) → s .buffer .fill ≤ mostFill → s .clauses ≤ mostFill → putBatch [] s ≡ s
-unfolding putBatch lay raised flat
-put-none s h k =
-    let p : min (s .buffer .fill + 0) mostFill ≡ s .buffer .fill = omega arith in
-    let q : min (s .clauses + 0) mostFill ≡ s .clauses = omega arith in
-    rw (p, q, either (leb (s .buffer .fill + 0) (length (s .buffer .words))) (s .buffer .words))
-
--- the counts after clauses, and the whole where they fit
-abbrev pub counted : Sink → List (List Lit) → Sink
-counted s cs = record { buffer = buffer (raised (s .buffer .fill) (length (flat cs))) []; clauses = raised (s .clauses) (length cs) }
-
+-- clauses that fit stand whole
 abbrev pub standing : Sink → List (List Lit) → Sink
 standing s cs = record { buffer = buffer (s .buffer .fill + length (flat cs)) (sets (s .buffer .words) (s .buffer .fill) (flat cs)); clauses = raised (s .clauses) (length cs) }
 
 abbrev pub Fits : Sink → List (List Lit) → Type 0
 Fits s cs = (s .buffer .fill + length (flat cs) ≤ length (s .buffer .words)) × (length (s .buffer .words) ≤ mostFill)
 
-put-counts : (s : Sink) (cs : List (List Lit)) → putBatch cs (forget s) ≡ counted s cs
-unfolding putBatch
-put-counts s cs = rw (lay-nil (flat cs) (s .buffer .fill))
-
 pub put-fits : (s : Sink) (cs : List (List Lit)) → Fits s cs → putBatch cs s ≡ standing s cs
 unfolding putBatch
 put-fits s cs h = rw (lay-fits (flat cs) (s .buffer) (h .0) (h .1))
-
-fits-append : (cs ds : List (List Lit)) (s : Sink) → Fits s (cs ++ ds) → Fits s cs × (putBatch (cs ++ ds) s ≡ putBatch ds (putBatch cs s))
-fits-append cs ds s h =
-    let e : length (flat (cs ++ ds)) ≡ length (flat cs) + length (flat ds) = ap length (flat-append cs ds) ∙ length-append (flat cs) (flat ds) in
-    ((omega arith, h .1), put-append cs ds s (lay-append (flat cs) (flat ds) (s .buffer) (omega arith) (h .1)))
-
--- Gate by gate the buffer gets what all the clauses, listed, give it as one batch: the counts always, the words where they fit
-module _ (up : ℕ → ℕ) (δ : Dir) (l : ℕ) (ws : List ℕ) (t : List ℕ) (n : ℕ) (s : Sink) (k : s .clauses ≤ mostFill) where
-  pub emit-counts : s .buffer .fill ≤ mostFill → onSink forget (emitAll up putBatch δ l ws (em t n s)) ≡ onSink (counted s) (emitAll up append δ l ws (em t n []))
-  emit-counts f =
-      dry-run up δ l ws (em t n s)
-      ∙ ap (λ (x : Sink). emitAll up putBatch δ l ws (em t n x)) (sym (put-none (forget s) f k))
-      ∙ sym (emit-map (λ cs. putBatch cs (forget s)) up append putBatch (λ cs ds. nil-append ds cs s) δ l ws (em t n []))
-      ∙ ap (em _ _) (put-counts s _)
-
-  pub emit-fits : Fits s (emitAll up append δ l ws (em t n []) .sink) → emitAll up putBatch δ l ws (em t n s) ≡ onSink (standing s) (emitAll up append δ l ws (em t n []))
-  emit-fits h =
-      ap (λ (x : Sink). emitAll up putBatch δ l ws (em t n x)) (sym (put-none s (omega arith) k))
-      ∙ sym (emit-step (λ cs. putBatch cs s) (λ e. Fits s (e .sink)) up up (λ e i x l. l) (λ e l. (l, refl)) append putBatch (λ cs e. fits-append (e .sink) cs s) δ l ws .at (em t n []) h .1)
-      ∙ ap (em _ _) (put-fits s _ h)
 
 -- what setting a word of the table, counting on and putting clauses keep
 module _ {S : Type 0} (up : ℕ → ℕ) (P : Em S → Type 0) (set-keeps : (e : Em S) (i x : ℕ) → P e → P (em (set (e .table) i x) (e .next) (e .sink)))
@@ -279,9 +196,6 @@ module _ {S : Type 0} (limit : ℕ) (up up′ : ℕ → ℕ) (rises : (n : ℕ) 
   pub reserve-agrees : (l : ℕ) (ws : List ℕ) (e : Em S) → reserveAll up l ws e .next < limit → reserveAll up l ws e ≡ reserveAll up′ l ws e
   reserve-agrees l ws e h = reserve-step (λ s. s) Below up up′ (λ e i x l. l) counts-below l ws .at e h .1
 
-  pub emit-agrees : (put : List (List Lit) → S → S) (δ : Dir) (l : ℕ) (ws : List ℕ) (e : Em S) → emitAll up put δ l ws e .next < limit → emitAll up put δ l ws e ≡ emitAll up′ put δ l ws e
-  emit-agrees put δ l ws e h = emit-step (λ s. s) Below up up′ (λ e i x l. l) counts-below put put (λ cs e l. (l, refl)) δ l ws .at e h .1
-
 -- so the source's word counts as ℕ does where either's next number stays below its top
 abbrev pub plain : ℕ → ℕ
 plain n = n + 1
@@ -303,8 +217,3 @@ module _ {S : Type 0} where
       → reserveAll bump l ws e ≡ reserveAll plain l ws e
   reserve-plain l ws e (inl h) = reserve-agrees 0xffff_ffff bump plain bump-rises bump-plain l ws e h
   reserve-plain l ws e (inr h) = sym (reserve-agrees 0xffff_ffff plain bump (λ n. omega arith) (λ n k. sym (bump-plain n k)) l ws e h)
-
-  pub emit-plain : (put : List (List Lit) → S → S) (δ : Dir) (l : ℕ) (ws : List ℕ) (e : Em S) → (emitAll bump put δ l ws e .next < 0xffff_ffff) ⊎ (emitAll plain put δ l ws e .next < 0xffff_ffff)
-      → emitAll bump put δ l ws e ≡ emitAll plain put δ l ws e
-  emit-plain put δ l ws e (inl h) = emit-agrees 0xffff_ffff bump plain bump-rises bump-plain put δ l ws e h
-  emit-plain put δ l ws e (inr h) = sym (emit-agrees 0xffff_ffff plain bump (λ n. omega arith) (λ n k. sym (bump-plain n k)) put δ l ws e h)

@@ -166,11 +166,6 @@ module _ {S : Type 0} (r : List ℕ) (up : ℕ → ℕ) where
       → (δ : Dir) (l : ℕ) (ws : List ℕ) (e : Em S) → 8 * l ≤ length (e .table) → emitAll up put δ l ws (grown r e) ≡ grown r (emitAll up put δ l ws e)
   emit-frame put same δ l ws e h = emit-framed r l up put same δ l ws (omega arith) .at e h .1
 
--- a build: its records stand behind the nodes before it, and words behind them stay
-sets-front : {A : Type 0} (vs l r : List A) (i : ℕ) → i + length vs ≤ length l → sets (l ++ r) i vs ≡ sets l i vs ++ r
-sets-front [] l r i h = refl
-sets-front (v ∷ vs) l r i h = ap (λ (m : List _). sets m (suc i) vs) (set-append-left l r i v (omega arith)) ∙ sets-front vs (set l i v) r (suc i) (simp length-set (omega arith))
-
 abbrev pub allWords : List Node → List ℕ
 allWords [] = []
 allWords (nd ∷ nds) = nodeWords nd ++ allWords nds
@@ -187,14 +182,6 @@ put-taken t n nd h =
 
 put-length : (t : List ℕ) (n : ℕ) (nd : Node) → 8 * n + 8 ≤ length t → length (putNode t n nd) ≡ length t
 put-length t n nd h = ap length (put-in t n nd h) ∙ length-sets t (8 * n) (nodeWords nd)
-
-pub putNodes-frame : (r t : List ℕ) (n : ℕ) (nds : List Node) → 8 * (n + length nds) ≤ length t → putNodes (t ++ r) n nds ≡ putNodes t n nds ++ r
-putNodes-frame r t n [] h = refl
-putNodes-frame r t n (nd ∷ nds) h =
-    let k : 8 * n + 8 ≤ length t = omega arith in
-    ap (λ (u : List ℕ). putNodes u (suc n) nds)
-    (put-in (t ++ r) n nd (omega (arith, length-append t r)) ∙ sets-front (nodeWords nd) t r (8 * n) k ∙ ap (λ (u : List ℕ). u ++ r) (sym (put-in t n nd k)))
-    ∙ putNodes-frame r (putNode t n nd) (suc n) nds (omega (arith, put-length t n nd k))
 
 pub putNodes-taken : (t : List ℕ) (n : ℕ) (nds : List Node) → 8 * (n + length nds) ≤ length t → take (8 * (n + length nds)) (putNodes t n nds) ≡ take (8 * n) t ++ allWords nds
 putNodes-taken t n [] h =
@@ -416,13 +403,3 @@ reserve-alike f up N ws e e′ a = record {
   long′ = rw (reserve-length up N ws e′) (a .long′);
   same = reserve-inUse f up N ws e (a .long) ∙ ap (reserveAll up N ws) (a .same) ∙ sym (reserve-inUse f up N ws e′ (a .long′));
 }
-
-pub emit-alike : (up : ℕ → ℕ) (δ : Dir) (N : ℕ) (ws : List ℕ) (e e′ : Em Sink) → Alike tally N e e′ → Alike tally N (emitAll up putBatch δ N ws e) (emitAll up putBatch δ N ws e′)
-emit-alike up δ N ws e e′ a = record {
-  long = rw (emit-length up putBatch δ N ws e) (a .long);
-  long′ = rw (emit-length up putBatch δ N ws e′) (a .long′);
-  same = counted e (a .long) ∙ ap (emitAll up count δ N ws) (a .same) ∙ sym (counted e′ (a .long′));
-}
-  where
-    counted : (x : Em Sink) → 8 * N ≤ length (x .table) → inUse tally N (emitAll up putBatch δ N ws x) ≡ emitAll up count δ N ws (inUse tally N x)
-    counted x = emit-inUse tally up putBatch count tally-batch count-same δ N ws x
