@@ -30,19 +30,19 @@ pub struct Claim {
     pub done: bool,
 }
 
-fn zeros() -> [u32; 1024]
+// An index without places.
+pub fn no_places() -> [u32; 1024]
     ensures { λ r. ⌜ r ≡ replicate 1024 0 ⌝ }
 {
     [0u32; 1024]
 }
 
-// For each asked value 0, or its first record's place and 1: records from last to first, so that the first wins. A table that is damaged
-// and a range that asks for more records than there may be are refused before.
-pub fn index_of(table: &[u32], count: u32, base: u64, n: usize) -> [u32; 1024]
-    requires { ⌜ (3 * count ≤ length (now table)) × (n ≤ 1024) ⌝ }
-    ensures { λ r. ⌜ Indexed (now (table .entry)) count base n r ⌝ }
+// For each asked value 0, or its first record's place and 1: records from last to first, so that the first wins. The index is lent, so
+// that it is not copied. A table that is damaged and a range that asks for more records than there may be are refused before.
+pub fn index_of(index: &mut [u32], table: &[u32], count: u32, base: u64, n: usize)
+    requires { ⌜ (now index ≡ replicate 1024 0) × (3 * count ≤ length (now table)) × (n ≤ 1024) ⌝ }
+    ensures { λ _. ⌜ Indexed (now (table .entry)) count base n (now (index .exit)) ⌝ }
 {
-    let mut index = zeros();
     let mut i = count;
     while 0 < i {
         i -= 1;
@@ -54,7 +54,6 @@ pub fn index_of(table: &[u32], count: u32, base: u64, n: usize) -> [u32; 1024]
             }
         }
     }
-    index
 }
 
 // How many asked values have no record and are not among the `others` values from `other` up.

@@ -234,7 +234,8 @@ fn lack_one(bounds: &[u32], old: u32, cut: Cut) -> usize
     requires { ⌜ (3 * old ≤ length (now bounds)) × (cut .n ≤ 1024) × (cut .base + cut .n ≤ 4294967296) ⌝ }
     ensures { λ r. ⌜ r ≡ missing (valuesFrom (now (bounds .entry)) 0 old) (valuesOf cut) ⌝ }
 {
-    let places = bounds::index_of(bounds, old, cut.base, cut.n);
+    let mut places = bounds::no_places();
+    bounds::index_of(&mut places, bounds, old, cut.base, cut.n);
     bounds::missing_up(&places, cut.base, cut.n)
 }
 
@@ -243,8 +244,10 @@ fn lack_both(bounds: &[u32], old: u32, up: Cut, down: Cut) -> usize
     requires { ⌜ Counts (now bounds) old up down ⌝ }
     ensures { λ r. ⌜ r ≡ missing (valuesFrom (now (bounds .entry)) 0 old) (valuesOf up ++ valuesOf down) ⌝ }
 {
-    let a = bounds::index_of(bounds, old, up.base, up.n);
-    let b = bounds::index_of(bounds, old, down.base, down.n);
+    let mut a = bounds::no_places();
+    let mut b = bounds::no_places();
+    bounds::index_of(&mut a, bounds, old, up.base, up.n);
+    bounds::index_of(&mut b, bounds, old, down.base, down.n);
     bounds::missing_of(&a, up.base, up.n, &b, down.base, down.n)
 }
 

@@ -62,7 +62,8 @@ fn stage(
     if cut.n == 0 {
         return w;
     }
-    let places = bounds::index_of(bounds, w.count, cut.base, cut.n);
+    let mut places = bounds::no_places();
+    bounds::index_of(&mut places, bounds, w.count, cut.base, cut.n);
     let c = emitter::emit_outputs(
         nodes,
         clauses,

@@ -12,6 +12,12 @@ use Rattle.stages.proofs.stage.Tie as tie
 returns : tie.Need-returns
 returns c = stage-none _ _ _ _ _ (c .if1 .taken)
 
+no-places-requires : tie.Need-no-places-requires
+no-places-requires c κs = search needs
+
+slice-aggregate-index-of : tie.Need-slice-aggregate-index-of
+slice-aggregate-index-of c = search needs
+
 index-of-requires : tie.Need-index-of-requires
 index-of-requires c κs = search needs
 
@@ -44,10 +50,10 @@ wide s = search needs
 
 returns-2 : tie.Need-returns-2
 returns-2 c =
-    let s = c .before .before .before .before .before .before .before .before .before .before .before .before .before .before .before .before .before .before .before .before .before .before .before .before in
+    let s = c .before .before .before .before .before .before .before .before .before .before .before .before .before .before .before .before .before .before .before .before .before .before .before .before .before .before .before in
     let t = c .before .before .before .before .before .before .before .before .before .before .before .before .before .before .before .emit-outputs .last .0 in
     let l : s .args .len ≤ length (s .args .outputs) = omega (arith, s .pre .outputs, wide s) in
-    stage-some _ _ _ (s .args .cut) _ t _ _ _ _ _ (s .args .w) _ _ _ (c .before .before .before .before .before .before .before .before .way .ensures) (c .before .before .before .before .before .before .before .before .before .before .before .before .before .before .before .before .before .before .before .before .if1 .left) (c .before .before .before .before .before .before .before .before .before .before .before .before .before .before .before .emit-outputs .ensures)
+    stage-some _ _ _ (s .args .cut) _ t _ _ _ _ _ (s .args .w) _ _ _ (c .before .before .before .before .before .before .before .before .way .ensures) (c .before .before .before .before .before .before .before .before .before .before .before .before .before .before .before .before .before .before .before .before .before .before .before .if1 .left) (c .before .before .before .before .before .before .before .before .before .before .before .before .before .before .before .emit-outputs .ensures)
     (c .before .before .before .bound-all .ensures t (s .args .outputs) (c .before .before .before .before .before .before .before .before .before .pairs-of .ensures (outLits t (s .args .outputs)) (c .before .before .before .before .before .before .before .before .before .before .resolve .ensures)) l)
 
 pub stage-spec : {M : Type 1} → statement M
@@ -55,6 +61,8 @@ stage-spec =
     tie.close
     (tie.spec
     returns
+    no-places-requires
+    slice-aggregate-index-of
     index-of-requires
     emit-outputs-requires
     resolve-requires
