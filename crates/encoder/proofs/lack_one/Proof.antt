@@ -3,6 +3,12 @@ use borrow.Author.Needs.{needs}
 use Rattle.encoder.proofs.lack_one.Statement.{statement}
 use Rattle.encoder.proofs.lack_one.Tie as tie
 
+no-places-requires : tie.Need-no-places-requires
+no-places-requires c κs = search needs
+
+slice-aggregate-index-of : tie.Need-slice-aggregate-index-of
+slice-aggregate-index-of c = search needs
+
 index-of-requires : tie.Need-index-of-requires
 index-of-requires c κs = search needs
 
@@ -10,7 +16,14 @@ missing-up-requires : tie.Need-missing-up-requires
 missing-up-requires c κs = search needs
 
 returns : tie.Need-returns
-returns c = c .missing-up .ensures _ _ (c .before .before .index-of .ensures)
+returns c = c .missing-up .ensures _ _ (c .before .before .before .index-of .ensures)
 
 pub lack-one-spec : {M : Type 1} → statement M
-lack-one-spec = tie.close (tie.spec index-of-requires missing-up-requires returns)
+lack-one-spec =
+    tie.close
+    (tie.spec
+    no-places-requires
+    slice-aggregate-index-of
+    index-of-requires
+    missing-up-requires
+    returns)
