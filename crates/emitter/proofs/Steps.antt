@@ -1,27 +1,28 @@
 -- The emitter's steps in the model: a variable taken, a node begun and finished, a connection by its limit and kind, and reserve.
 -- Assumes nothing.
-use mathlib.Core.Path.{_≡_, refl, sym, ap, _∙_}
-use mathlib.Core.Bool.{Bool, true, false, cond, _&&_}
+use mathlib.Core.Path.{_≡_, refl, sym, ap, _∙_, subst}
+use mathlib.Core.Bool.{Bool, true, false, cond, not, _&&_}
 use mathlib.Core.Logic.{⊎-elim}
 use mathlib.Core.List.{List}
 use Prim.Native.Nat.{ℕ, zero, suc, _+_, _*_, _/_, _%_, _^_, _≤_, _<_}
 use native.Mathlib.Nat.{eq-or-lt-of-le}
 use native.Mathlib.Omega.{arith}
-use borrow.Author.Tests.{eq-eqb, ne-eqb, lt-ltb, le-ltb, ltb-true, ltb-false}
-use lib.Dec.{eqb, ltb}
+use borrow.Author.Tests.{eq-eqb, ne-eqb, eqb-true, lt-ltb, le-ltb, ltb-true, ltb-false}
+use lib.Dec.{T, eqb, ltb}
 use lib.IntN.{ℤ}
 use lib.ListN.{length, getD, set}
 use lib.Seq.{getD-set-other}
+use Rattle.model.specs.Logic.{Lit, pL}
 use Rattle.model.specs.Words.{flat, buffer, raised, lay, Sink, putBatch}
 use Rattle.model.specs.Signs.{Bit, sum, carry, Dir, iff, onlyif}
-use Rattle.model.specs.Nodes.{bump, inTable, nodeAt, var, setVar, bitPlace, bitAt, markPlace, marked, setMark}
+use Rattle.model.specs.Nodes.{Node, bump, inTable, nodeAt, var, setVar, bitPlace, bitAt, markPlace, marked, setMark, litAt}
 use Rattle.model.specs.Emit.{Em, childDir, takeVar, mark, write, node, byKind, emit, reserveNode, reserve}
-use Rattle.gates.specs.Codes.{gateBy}
+use Rattle.gates.specs.Numbered.{Named, gateBy}
 use Rattle.gates.specs.declared.Lits.{Lits}
 use Rattle.emitter.specs.declared.Cursor.{Cursor}
 use Rattle.emitter.specs.declared.Kids.{Kids}
-use Rattle.emitter.specs.State.{emOf, em, tab, bitSpot, LitsAt, gateNo, withMark, claimed, setMarks, kidsOf, three}
-use Rattle.emitter.proofs.Words.{gate-words, gate-count}
+use Rattle.emitter.specs.State.{emOf, em, tab, bitOf, bitSpot, LitsAt, gateNo, withMark, claimed, wantedAt, setMarks, kidsOf, three}
+use Rattle.emitter.proofs.Words.{gate-at}
 
 -- a variable taken
 module _ (t : List ℕ) (β : Bit) (n s w x : ℕ) (es : s ≡ bitSpot β n) (ew : w ≡ getD t s 0) where
@@ -112,10 +113,12 @@ one-busy t ws β δ d n m x f q k t₁ t₂ x₁ ws₂ ws₃ c₂ c₃ em₀ z e
 
 -- its clauses written
 pub finish : (t : List ℕ) (ws ws′ : List ℤ) (β : Bit) (δ : Dir) (n g x f f′ q q′ r : ℕ) (l : Lits) → g ≡ gateNo (nodeAt t n .kind) β δ → LitsAt t β n l
-    → buffer f′ ws′ ≡ lay (flat (gateBy g l)) (buffer f ws) → ((l : Lits) → r ≡ length (gateBy g l)) → q′ ≡ raised q r
+    → ((a b c o : Lit) → Named l a b c o → buffer f′ ws′ ≡ lay (flat (gateBy g a b c o)) (buffer f ws)) → ((a b c o : Lit) → r ≡ length (gateBy g a b c o)) → q′ ≡ raised q r
     → em t ws′ (record { next = x; fill = f′; clauses = q′ }) ≡ write putBatch β δ n (em t ws (record { next = x; fill = f; clauses = q }))
 unfolding write putBatch
-finish t ws ws′ β δ n g x f f′ q q′ r l eg el eb er eq = rw (eb, eq, er l, gate-words t β δ n g l eg el, gate-count t β δ n g l eg el)
+finish t ws ws′ β δ n g x f f′ q q′ r l eg el eb er eq =
+    let nd : Node = nodeAt t n in
+    rw (eb _ _ _ _ el, eq, er (litAt t (nd .a)) (litAt t (nd .b)) (litAt t (nd .c)) (pL (var t β n)), gate-at t β δ n g eg)
 
 -- three children, one after another
 pub in-order : {S : Type 0} (below : ℕ → Em S → Em S) (k : Kids) (e₀ e₁ e₂ e₃ : Em S) → e₁ ≡ below (k .a) e₀ → e₂ ≡ below (k .b) e₁ → e₃ ≡ below (k .c) e₂ → e₃ ≡ three below k e₀
@@ -161,6 +164,38 @@ module _ (δ : Dir) (w : ℕ) (e : Em Sink) where
 
   pub fetch-lit : (l : ℕ) → w / 4 < l → (w % 4 ≡ 2 → ⊥) → (w % 4 ≡ 3 → ⊥) → e ≡ emit bump putBatch δ l w e
   fetch-lit l h p q = rw (emit-at l h) (literal (w % 4) (w / 4) (λ δ′. emit bump putBatch δ′ (w / 4)) (omega arith))
+
+-- a connection at which nothing is wanted has nothing to emit
+module _ (t : List ℕ) (ws : List ℤ) (δ : Dir) (x f q : ℕ) where
+  abbrev at-kid : Em Sink
+  at-kid = em t ws (record { next = x; fill = f; clauses = q })
+
+  none : (m : ℕ) → not (eqb m 0) ≡ false → m ≡ 0
+  none m h = go (eqb m 0) refl h
+    where
+      go : (b : Bool) → eqb m 0 ≡ b → not b ≡ false → m ≡ 0
+      go true e p = eqb-true m 0 e
+      go false e p = absurd (subst T p tt)
+
+  idle-kind : (k n : ℕ) (below : Dir → ℕ → Em Sink → Em Sink) → k < 4 → cond (ltb k 2) false (not (eqb (claimed t (bitOf (eqb k 3)) δ n) 0)) ≡ false
+      → at-kid ≡ byKind bump putBatch k δ n below at-kid
+  unfolding byKind bitOf
+  idle-kind zero n below h p = refl
+  idle-kind (suc zero) n below h p = refl
+  idle-kind (suc (suc zero)) n below h p = node-idle t ws sum δ n (claimed t sum δ n) x f q (below (childDir sum δ)) refl (none _ p)
+  idle-kind (suc (suc (suc zero))) n below h p = node-idle t ws carry δ n (claimed t carry δ n) x f q (below (childDir carry δ)) refl (none _ p)
+  idle-kind (suc (suc (suc (suc k)))) n below h p = absurd (omega arith)
+
+  unwanted-in : (l w : ℕ) → ltb (w / 4) l ≡ true → wantedAt t δ l w ≡ false → at-kid ≡ emit bump putBatch δ l w at-kid
+  unfolding wantedAt
+  unwanted-in l w h p = rw (emit-at δ w at-kid l (ltb-true (w / 4) l h)) (idle-kind (w % 4) (w / 4) _ (omega arith) (rw h at p))
+
+  pub unwanted : (l w : ℕ) (b : Bool) → b ≡ wantedAt t δ l w → b ≡ false → at-kid ≡ emit bump putBatch δ l w at-kid
+  unwanted l w b e z = go (ltb (w / 4) l) refl
+    where
+      go : (i : Bool) → ltb (w / 4) l ≡ i → at-kid ≡ emit bump putBatch δ l w at-kid
+      go true h = unwanted-in l w h (sym e ∙ z)
+      go false h = fetch-out δ w at-kid l (ltb-false (w / 4) l h)
 
 -- whether node n has both its variables
 module _ (t : List ℕ) (n a : ℕ) (ea : a ≡ getD t (8 * n + 4) 0) where

@@ -1,16 +1,16 @@
 -- The emitter's state as the code holds it, and the words of one node. Assumes nothing: these are definitions.
-use mathlib.Core.Path.{_≡_}
-use mathlib.Core.Bool.{Bool, cond}
+use mathlib.Core.Bool.{Bool, false, cond, not}
 use mathlib.Core.List.{List}
-use Prim.Native.Nat.{ℕ, _+_, _*_, _%_, _^_}
+use Prim.Native.Nat.{ℕ, _+_, _*_, _/_, _%_, _^_}
+use lib.Dec.{eqb, ltb}
 use lib.IntN.{ℤ}
 use lib.ListN.{set, getD}
-use Rattle.model.specs.Logic.{Lit, pL, nL}
+use Rattle.model.specs.Logic.{pL}
 use Rattle.model.specs.Words.{buffer, Sink}
 use Rattle.model.specs.Signs.{Kind, half, full, Bit, sum, carry, Dir, iff, onlyif}
 use Rattle.model.specs.Nodes.{inTable, nodeAt, var, bitPlace, bitAt, markPlace, litAt}
 use Rattle.model.specs.Emit.{Em}
-use Rattle.gates.specs.Codes.{codeLit}
+use Rattle.gates.specs.Numbered.{Named}
 use Rattle.gates.specs.declared.Lits.{Lits}
 use Rattle.emitter.specs.declared.Cursor.{Cursor}
 use Rattle.emitter.specs.declared.Kids.{Kids}
@@ -38,17 +38,9 @@ dirOf only = cond only onlyif iff
 unfoldable pub bitSpot : Bit → ℕ → ℕ
 bitSpot β n = 8 * n + bitPlace β
 
--- a literal at 31 bits of its variable, as a word and a code have it
-unfoldable pub clamp : Lit → Lit
-clamp (pL n) = pL (n % 0x8000_0000)
-clamp (nL n) = nL (n % 0x8000_0000)
-
--- the codes of the literals of a node's gate
-pub record LitsAt (t : List ℕ) (β : Bit) (n : ℕ) (l : Lits) : Type 0 where
-  pub at-a : codeLit (l .a) ≡ clamp (litAt t (nodeAt t n .a))
-  pub at-b : codeLit (l .b) ≡ clamp (litAt t (nodeAt t n .b))
-  pub at-c : codeLit (l .c) ≡ clamp (litAt t (nodeAt t n .c))
-  pub at-own : codeLit (l .own) ≡ clamp (pL (var t β n))
+-- the words of the literals of a node's gate
+abbrev pub LitsAt : List ℕ → Bit → ℕ → Lits → Type 0
+LitsAt t β n l = Named l (litAt t (nodeAt t n .a)) (litAt t (nodeAt t n .b)) (litAt t (nodeAt t n .c)) (pL (var t β n))
 
 -- the number of a gate
 abbrev pub kindPart : Kind → ℕ
@@ -73,6 +65,12 @@ withMark β δ m = cond (bitAt (markPlace β δ) m) 0 (m + 2 ^ markPlace β δ)
 -- the marks that node n takes, 0 where there is nothing to emit
 unfoldable pub claimed : List ℕ → Bit → Dir → ℕ → ℕ
 claimed t β δ n = cond (inTable t n) (withMark β δ (getD t (8 * n + 6) 0)) 0
+
+-- whether there is something to emit at a connection
+unfoldable pub wantedAt : List ℕ → Dir → ℕ → ℕ → Bool
+wantedAt t δ l w =
+    let taken : ℕ = claimed t (bitOf (eqb (w % 4) 3)) δ (w / 4) in
+    cond (ltb (w % 4) 2) false (cond (ltb (w / 4) l) (not (eqb taken 0)) false)
 
 -- the word of marks as it is to be
 unfoldable pub setMarks : {S : Type 0} → ℕ → ℕ → Em S → Em S

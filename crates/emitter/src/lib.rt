@@ -3,16 +3,14 @@
 ghost use mathlib.Core.Path.{_≡_};
 ghost use Prim.Native.Nat.{min};
 ghost use lib.ListN.{getD, set, take};
-ghost use Rattle.model.specs.Words.{putBatch};
+ghost use Rattle.model.specs.Words.{putBatch, word};
 ghost use Rattle.model.specs.Nodes.{bump, litAt, nodeAt};
 ghost use Rattle.model.specs.Signs.{carry, half, sum};
 ghost use Rattle.model.specs.Logic.{pL};
 ghost use Rattle.model.specs.Emit.{childDir, emit, emitAll, node, takeVar, write};
-ghost use Rattle.gates.specs.Codes.{codeLit};
 ghost use Rattle.emitter.specs.State.{
   bitOf,
   bitSpot,
-  clamp,
   claimed,
   dirOf,
   em,
@@ -22,6 +20,7 @@ ghost use Rattle.emitter.specs.State.{
   setMarks,
   tab,
   three,
+  wantedAt,
   withMark,
 };
 use gates::Lits;
@@ -78,26 +77,26 @@ fn take_var(nodes: &mut [u32], n: u32, high: bool, next: u32) -> u32
     next
 }
 
-// The literal of the variable at a place: a code has 31 bits for it.
-fn var_code(nodes: &[u32], at: usize) -> u32
-    ensures { λ r. ⌜ codeLit r ≡ clamp (pL (getD (now (nodes .entry)) at 0)) ⌝ }
+// The word of the variable at a place: it has 31 bits for it.
+fn var_word(nodes: &[u32], at: usize) -> i32
+    ensures { λ r. ⌜ r ≡ word (pL (getD (now (nodes .entry)) at 0)) ⌝ }
 {
-    word_at(nodes, at) % 0x8000_0000 * 2
+    (word_at(nodes, at) % 0x8000_0000) as i32
 }
 
-// The literal of a connection.
-fn code_of(nodes: &[u32], conn: u32) -> u32
-    ensures { λ r. ⌜ codeLit r ≡ clamp (litAt (now (nodes .entry)) conn) ⌝ }
+// The word of a connection's literal.
+fn conn_word(nodes: &[u32], conn: u32) -> i32
+    ensures { λ r. ⌜ r ≡ word (litAt (now (nodes .entry)) conn) ⌝ }
 {
     let n = conn / 4;
     let k = conn % 4;
     if k == 0 {
-        return 2 * n;
+        return n as i32;
     }
     if k == 1 {
-        return 2 * n + 1;
+        return 0 - (n as i32);
     }
-    var_code(nodes, bit_spot(n, k == 3))
+    var_word(nodes, bit_spot(n, k == 3))
 }
 
 // The literals of a node's gate.
@@ -106,10 +105,10 @@ fn lits_of(nodes: &[u32], n: u32, high: bool) -> Lits
 {
     let at = 8 * (n as usize);
     Lits {
-        a: code_of(nodes, word_at(nodes, at + 1)),
-        b: code_of(nodes, word_at(nodes, at + 2)),
-        c: code_of(nodes, word_at(nodes, at + 3)),
-        own: var_code(nodes, bit_spot(n, high)),
+        a: conn_word(nodes, word_at(nodes, at + 1)),
+        b: conn_word(nodes, word_at(nodes, at + 2)),
+        c: conn_word(nodes, word_at(nodes, at + 3)),
+        own: var_word(nodes, bit_spot(n, high)),
     }
 }
 
@@ -309,6 +308,45 @@ fn one_bit(
     finished(nodes, clauses, n, high, only, c.next, c.fill, c.clauses)
 }
 
+// Whether there is something to emit at a connection: a node's bit below the limit that is not marked in the direction. It is asked
+// before a child is called, since half of all children are marked by then.
+fn wanted(nodes: &[u32], conn: u32, only: bool, limit: u32) -> bool
+    ensures { λ r. ⌜ r ≡ wantedAt (now (nodes .entry)) (dirOf only) limit conn ⌝ }
+{
+    let n = conn / 4;
+    let k = conn % 4;
+    if k < 2 {
+        return false;
+    }
+    if n < limit {
+        return claim(nodes, n, k == 3, only) != 0;
+    }
+    false
+}
+
+// A child's connection, emitted where something is wanted.
+fn kid(
+    nodes: &mut [u32],
+    clauses: &mut [i32],
+    conn: u32,
+    only: bool,
+    limit: u32,
+    next: u32,
+    fill: usize,
+    count: usize,
+) -> Cursor
+    ensures { λ r. ⌜ em (now (nodes .exit)) (now (clauses .exit)) r ≡ emit bump putBatch (dirOf only) limit conn (em (now (nodes .entry)) (now (clauses .entry)) (record { next = next; fill = fill; clauses = count })) ⌝ }
+{
+    if wanted(nodes, conn, only, limit) {
+        return fetch(nodes, clauses, conn, only, limit, next, fill, count);
+    }
+    Cursor {
+        next,
+        fill,
+        clauses: count,
+    }
+}
+
 // Emits the children of node n, in their order.
 fn three_kids(
     nodes: &mut [u32],
@@ -322,9 +360,9 @@ fn three_kids(
 ) -> Cursor
     ensures { λ r. ⌜ em (now (nodes .exit)) (now (clauses .exit)) r ≡ three (emit bump putBatch (dirOf only) n) k (em (now (nodes .entry)) (now (clauses .entry)) (record { next = next; fill = fill; clauses = count })) ⌝ }
 {
-    let c1 = fetch(nodes, clauses, k.a, only, n, next, fill, count);
-    let c2 = fetch(nodes, clauses, k.b, only, n, c1.next, c1.fill, c1.clauses);
-    fetch(nodes, clauses, k.c, only, n, c2.next, c2.fill, c2.clauses)
+    let c1 = kid(nodes, clauses, k.a, only, n, next, fill, count);
+    let c2 = kid(nodes, clauses, k.b, only, n, c1.next, c1.fill, c1.clauses);
+    kid(nodes, clauses, k.c, only, n, c2.next, c2.fill, c2.clauses)
 }
 
 // How many outputs there are: at most 48.

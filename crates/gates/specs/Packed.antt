@@ -4,10 +4,10 @@ use mathlib.Core.List.{List, [], _∷_}
 use Prim.Native.Nat.{ℕ, zero, suc, _/_, _%_}
 use lib.IntN.{ℤ, pos}
 use lib.ListN.{length}
+use Rattle.model.specs.Logic.{Lit}
 use Rattle.model.specs.Words.{word, flat}
 use Rattle.model.specs.Signs.{Kind, half, full, Bit, sum, carry, Dir, iff, onlyif, Row, signRow, signs, rowsAt}
-use Rattle.gates.specs.Codes.{codeLit, signBy}
-use Rattle.gates.specs.declared.Lits.{Lits}
+use Rattle.gates.specs.Numbered.{signBy}
 
 -- a row of four hex digits for each clause, the last clause in the last four
 unfoldable pub packed : Kind → Bit → Dir → ℕ
@@ -32,24 +32,24 @@ unfoldable pub unpacked : Kind → Bit → Dir → List Row
 unpacked κ β δ = unpack (length (signs κ β δ)) (packed κ β δ) []
 
 -- the words of a gate's clauses, by the packed table
-unfoldable pub gateWords : Kind → Bit → Dir → Lits → List ℤ
-gateWords κ β δ l = flat (rowsAt (unpacked κ β δ) (codeLit (l .a) ∷ codeLit (l .b) ∷ codeLit (l .c) ∷ codeLit (l .own) ∷ []))
+unfoldable pub gateWords : Kind → Bit → Dir → Lit → Lit → Lit → Lit → List ℤ
+gateWords κ β δ a b c o = flat (rowsAt (unpacked κ β δ) (a ∷ b ∷ c ∷ o ∷ []))
 
 -- the words of a row, by the literals that it has beside the bit's own; its digits are the number's last four
-unfoldable pub rowA : ℕ → Lits → List ℤ
-rowA s l = word (signBy (s / 0x1000) (l .a)) ∷ word (signBy s (l .own)) ∷ pos 0 ∷ []
+unfoldable pub rowA : ℕ → Lit → Lit → Lit → Lit → List ℤ
+rowA s a b c o = word (signBy (s / 0x1000) a) ∷ word (signBy s o) ∷ pos 0 ∷ []
 
-unfoldable pub rowB : ℕ → Lits → List ℤ
-rowB s l = word (signBy (s / 0x100) (l .b)) ∷ word (signBy s (l .own)) ∷ pos 0 ∷ []
+unfoldable pub rowB : ℕ → Lit → Lit → Lit → Lit → List ℤ
+rowB s a b c o = word (signBy (s / 0x100) b) ∷ word (signBy s o) ∷ pos 0 ∷ []
 
-unfoldable pub rowAB : ℕ → Lits → List ℤ
-rowAB s l = word (signBy (s / 0x1000) (l .a)) ∷ word (signBy (s / 0x100) (l .b)) ∷ word (signBy s (l .own)) ∷ pos 0 ∷ []
+unfoldable pub rowAB : ℕ → Lit → Lit → Lit → Lit → List ℤ
+rowAB s a b c o = word (signBy (s / 0x1000) a) ∷ word (signBy (s / 0x100) b) ∷ word (signBy s o) ∷ pos 0 ∷ []
 
-unfoldable pub rowAC : ℕ → Lits → List ℤ
-rowAC s l = word (signBy (s / 0x1000) (l .a)) ∷ word (signBy (s / 0x10) (l .c)) ∷ word (signBy s (l .own)) ∷ pos 0 ∷ []
+unfoldable pub rowAC : ℕ → Lit → Lit → Lit → Lit → List ℤ
+rowAC s a b c o = word (signBy (s / 0x1000) a) ∷ word (signBy (s / 0x10) c) ∷ word (signBy s o) ∷ pos 0 ∷ []
 
-unfoldable pub rowBC : ℕ → Lits → List ℤ
-rowBC s l = word (signBy (s / 0x100) (l .b)) ∷ word (signBy (s / 0x10) (l .c)) ∷ word (signBy s (l .own)) ∷ pos 0 ∷ []
+unfoldable pub rowBC : ℕ → Lit → Lit → Lit → Lit → List ℤ
+rowBC s a b c o = word (signBy (s / 0x100) b) ∷ word (signBy (s / 0x10) c) ∷ word (signBy s o) ∷ pos 0 ∷ []
 
-unfoldable pub rowABC : ℕ → Lits → List ℤ
-rowABC s l = word (signBy (s / 0x1000) (l .a)) ∷ word (signBy (s / 0x100) (l .b)) ∷ word (signBy (s / 0x10) (l .c)) ∷ word (signBy s (l .own)) ∷ pos 0 ∷ []
+unfoldable pub rowABC : ℕ → Lit → Lit → Lit → Lit → List ℤ
+rowABC s a b c o = word (signBy (s / 0x1000) a) ∷ word (signBy (s / 0x100) b) ∷ word (signBy (s / 0x10) c) ∷ word (signBy s o) ∷ pos 0 ∷ []

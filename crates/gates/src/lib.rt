@@ -3,18 +3,18 @@ ghost use mathlib.Core.Path.{_≡_};
 ghost use Prim.Native.Nat.{_+_, _≤_};
 ghost use lib.ListN.{length};
 ghost use lib.Seq.{sets};
+ghost use Rattle.model.specs.Logic.{Lit, neg};
 ghost use Rattle.model.specs.Signs.{half, full, sum, carry, iff, onlyif};
 ghost use Rattle.model.specs.Words.{buffer, flat, lay, word};
-ghost use Rattle.gates.specs.Codes.{codeLit, flip, gateBy, signBy};
+ghost use Rattle.gates.specs.Numbered.{gateBy, Named, signBy};
 ghost use Rattle.gates.specs.Packed.{gateWords, rowA, rowAB, rowABC, rowAC, rowB, rowBC};
-ghost use Rattle.gates.specs.declared.Lits.{Lits};
 
-// The literals of a gate, those of a, b, c and the bit's own variable: each twice its variable, and 1 more where it is negated.
+// The literals of a gate, those of a, b, c and the bit's own variable, as the words that the clauses have.
 pub struct Lits {
-    pub a: u32,
-    pub b: u32,
-    pub c: u32,
-    pub own: u32,
+    pub a: i32,
+    pub b: i32,
+    pub c: i32,
+    pub own: i32,
 }
 
 // The signs: a row of four hex digits for each clause, of a, b, c and the bit's own variable. 0 absent, 1 as it stands, 2 negated.
@@ -34,35 +34,31 @@ const FULL_CARRY_IF: u64 = 0x0221_2021_2201;
 
 const FULL_CARRY_ONLY_IF: u64 = 0x0112_1012_1102;
 
-// The word of a literal.
-fn word_of(code: u32) -> i32
-    ensures { λ r. ⌜ r ≡ word (codeLit code) ⌝ }
+// The negated literal's word. The least number, which is no literal's word, stays, as it does under a negation that wraps: so the
+// compiled code has the negation alone and no test.
+fn minus(w: i32) -> i32
+    ensures { λ r. ⌜ ((x : Lit) → w ≡ word x → r ≡ word (neg x)) ⌝ }
 {
-    let half = (code / 2) as i32;
-    if code % 2 == 0 { half } else { -half }
-}
-
-// The negated literal.
-fn flipped(code: u32) -> u32
-    ensures { λ r. ⌜ r ≡ flip code ⌝ }
-{
-    if code % 2 == 0 { code + 1 } else { code - 1 }
+    if w == -2147483648 {
+        return w;
+    }
+    0 - w
 }
 
 // The word of a literal at the sign in the last hex digit.
-fn signed_word(signs: u64, code: u32) -> i32
-    ensures { λ r. ⌜ r ≡ word (signBy signs code) ⌝ }
+fn signed_word(signs: u64, w: i32) -> i32
+    ensures { λ r. ⌜ ((x : Lit) → w ≡ word x → r ≡ word (signBy signs x)) ⌝ }
 {
     if signs % 16 == 1 {
-        return word_of(code);
+        return w;
     }
-    word_of(flipped(code))
+    minus(w)
 }
 
 // The clauses of one row each, by the literals beside the bit's own. The room is tested by the caller, once for the gate.
 fn row_a(clauses: &mut [i32], at: usize, signs: u64, l: Lits)
     requires { ⌜ at + 3 ≤ length (now clauses) ⌝ }
-    ensures { λ _. ⌜ now (clauses .exit) ≡ sets (now (clauses .entry)) at (rowA signs l) ⌝ }
+    ensures { λ _. ⌜ ((a b c o : Lit) → Named l a b c o → now (clauses .exit) ≡ sets (now (clauses .entry)) at (rowA signs a b c o)) ⌝ }
 {
     let a = signed_word(signs / 0x1000, l.a);
     let own = signed_word(signs, l.own);
@@ -71,7 +67,7 @@ fn row_a(clauses: &mut [i32], at: usize, signs: u64, l: Lits)
 
 fn row_b(clauses: &mut [i32], at: usize, signs: u64, l: Lits)
     requires { ⌜ at + 3 ≤ length (now clauses) ⌝ }
-    ensures { λ _. ⌜ now (clauses .exit) ≡ sets (now (clauses .entry)) at (rowB signs l) ⌝ }
+    ensures { λ _. ⌜ ((a b c o : Lit) → Named l a b c o → now (clauses .exit) ≡ sets (now (clauses .entry)) at (rowB signs a b c o)) ⌝ }
 {
     let b = signed_word(signs / 0x100, l.b);
     let own = signed_word(signs, l.own);
@@ -80,7 +76,7 @@ fn row_b(clauses: &mut [i32], at: usize, signs: u64, l: Lits)
 
 fn row_ab(clauses: &mut [i32], at: usize, signs: u64, l: Lits)
     requires { ⌜ at + 4 ≤ length (now clauses) ⌝ }
-    ensures { λ _. ⌜ now (clauses .exit) ≡ sets (now (clauses .entry)) at (rowAB signs l) ⌝ }
+    ensures { λ _. ⌜ ((a b c o : Lit) → Named l a b c o → now (clauses .exit) ≡ sets (now (clauses .entry)) at (rowAB signs a b c o)) ⌝ }
 {
     let a = signed_word(signs / 0x1000, l.a);
     let b = signed_word(signs / 0x100, l.b);
@@ -90,7 +86,7 @@ fn row_ab(clauses: &mut [i32], at: usize, signs: u64, l: Lits)
 
 fn row_ac(clauses: &mut [i32], at: usize, signs: u64, l: Lits)
     requires { ⌜ at + 4 ≤ length (now clauses) ⌝ }
-    ensures { λ _. ⌜ now (clauses .exit) ≡ sets (now (clauses .entry)) at (rowAC signs l) ⌝ }
+    ensures { λ _. ⌜ ((a b c o : Lit) → Named l a b c o → now (clauses .exit) ≡ sets (now (clauses .entry)) at (rowAC signs a b c o)) ⌝ }
 {
     let a = signed_word(signs / 0x1000, l.a);
     let c = signed_word(signs / 0x10, l.c);
@@ -100,7 +96,7 @@ fn row_ac(clauses: &mut [i32], at: usize, signs: u64, l: Lits)
 
 fn row_bc(clauses: &mut [i32], at: usize, signs: u64, l: Lits)
     requires { ⌜ at + 4 ≤ length (now clauses) ⌝ }
-    ensures { λ _. ⌜ now (clauses .exit) ≡ sets (now (clauses .entry)) at (rowBC signs l) ⌝ }
+    ensures { λ _. ⌜ ((a b c o : Lit) → Named l a b c o → now (clauses .exit) ≡ sets (now (clauses .entry)) at (rowBC signs a b c o)) ⌝ }
 {
     let b = signed_word(signs / 0x100, l.b);
     let c = signed_word(signs / 0x10, l.c);
@@ -110,7 +106,7 @@ fn row_bc(clauses: &mut [i32], at: usize, signs: u64, l: Lits)
 
 fn row_abc(clauses: &mut [i32], at: usize, signs: u64, l: Lits)
     requires { ⌜ at + 5 ≤ length (now clauses) ⌝ }
-    ensures { λ _. ⌜ now (clauses .exit) ≡ sets (now (clauses .entry)) at (rowABC signs l) ⌝ }
+    ensures { λ _. ⌜ ((a b c o : Lit) → Named l a b c o → now (clauses .exit) ≡ sets (now (clauses .entry)) at (rowABC signs a b c o)) ⌝ }
 {
     let a = signed_word(signs / 0x1000, l.a);
     let b = signed_word(signs / 0x100, l.b);
@@ -122,7 +118,7 @@ fn row_abc(clauses: &mut [i32], at: usize, signs: u64, l: Lits)
 // The eight gates, each from its constant, so that the signs fold away where it is compiled.
 fn half_sum_if(clauses: &mut [i32], at: usize, l: Lits)
     requires { ⌜ at + 8 ≤ length (now clauses) ⌝ }
-    ensures { λ _. ⌜ now (clauses .exit) ≡ sets (now (clauses .entry)) at (gateWords half sum iff l) ⌝ }
+    ensures { λ _. ⌜ ((a b c o : Lit) → Named l a b c o → now (clauses .exit) ≡ sets (now (clauses .entry)) at (gateWords half sum iff a b c o)) ⌝ }
 {
     row_ab(clauses, at, HALF_SUM_IF / 0x1_0000, l);
     row_ab(clauses, at + 4, HALF_SUM_IF, l);
@@ -130,7 +126,7 @@ fn half_sum_if(clauses: &mut [i32], at: usize, l: Lits)
 
 fn half_sum_only_if(clauses: &mut [i32], at: usize, l: Lits)
     requires { ⌜ at + 8 ≤ length (now clauses) ⌝ }
-    ensures { λ _. ⌜ now (clauses .exit) ≡ sets (now (clauses .entry)) at (gateWords half sum onlyif l) ⌝ }
+    ensures { λ _. ⌜ ((a b c o : Lit) → Named l a b c o → now (clauses .exit) ≡ sets (now (clauses .entry)) at (gateWords half sum onlyif a b c o)) ⌝ }
 {
     row_ab(clauses, at, HALF_SUM_ONLY_IF / 0x1_0000, l);
     row_ab(clauses, at + 4, HALF_SUM_ONLY_IF, l);
@@ -138,14 +134,14 @@ fn half_sum_only_if(clauses: &mut [i32], at: usize, l: Lits)
 
 fn half_carry_if(clauses: &mut [i32], at: usize, l: Lits)
     requires { ⌜ at + 4 ≤ length (now clauses) ⌝ }
-    ensures { λ _. ⌜ now (clauses .exit) ≡ sets (now (clauses .entry)) at (gateWords half carry iff l) ⌝ }
+    ensures { λ _. ⌜ ((a b c o : Lit) → Named l a b c o → now (clauses .exit) ≡ sets (now (clauses .entry)) at (gateWords half carry iff a b c o)) ⌝ }
 {
     row_ab(clauses, at, HALF_CARRY_IF, l);
 }
 
 fn half_carry_only_if(clauses: &mut [i32], at: usize, l: Lits)
     requires { ⌜ at + 6 ≤ length (now clauses) ⌝ }
-    ensures { λ _. ⌜ now (clauses .exit) ≡ sets (now (clauses .entry)) at (gateWords half carry onlyif l) ⌝ }
+    ensures { λ _. ⌜ ((a b c o : Lit) → Named l a b c o → now (clauses .exit) ≡ sets (now (clauses .entry)) at (gateWords half carry onlyif a b c o)) ⌝ }
 {
     row_a(clauses, at, HALF_CARRY_ONLY_IF / 0x1_0000, l);
     row_b(clauses, at + 3, HALF_CARRY_ONLY_IF, l);
@@ -153,7 +149,7 @@ fn half_carry_only_if(clauses: &mut [i32], at: usize, l: Lits)
 
 fn full_sum_if(clauses: &mut [i32], at: usize, l: Lits)
     requires { ⌜ at + 20 ≤ length (now clauses) ⌝ }
-    ensures { λ _. ⌜ now (clauses .exit) ≡ sets (now (clauses .entry)) at (gateWords full sum iff l) ⌝ }
+    ensures { λ _. ⌜ ((a b c o : Lit) → Named l a b c o → now (clauses .exit) ≡ sets (now (clauses .entry)) at (gateWords full sum iff a b c o)) ⌝ }
 {
     row_abc(clauses, at, FULL_SUM_IF / 0x1_0000_0000_0000, l);
     row_abc(clauses, at + 5, FULL_SUM_IF / 0x1_0000_0000, l);
@@ -163,7 +159,7 @@ fn full_sum_if(clauses: &mut [i32], at: usize, l: Lits)
 
 fn full_sum_only_if(clauses: &mut [i32], at: usize, l: Lits)
     requires { ⌜ at + 20 ≤ length (now clauses) ⌝ }
-    ensures { λ _. ⌜ now (clauses .exit) ≡ sets (now (clauses .entry)) at (gateWords full sum onlyif l) ⌝ }
+    ensures { λ _. ⌜ ((a b c o : Lit) → Named l a b c o → now (clauses .exit) ≡ sets (now (clauses .entry)) at (gateWords full sum onlyif a b c o)) ⌝ }
 {
     row_abc(clauses, at, FULL_SUM_ONLY_IF / 0x1_0000_0000_0000, l);
     row_abc(clauses, at + 5, FULL_SUM_ONLY_IF / 0x1_0000_0000, l);
@@ -173,7 +169,7 @@ fn full_sum_only_if(clauses: &mut [i32], at: usize, l: Lits)
 
 fn full_carry_if(clauses: &mut [i32], at: usize, l: Lits)
     requires { ⌜ at + 12 ≤ length (now clauses) ⌝ }
-    ensures { λ _. ⌜ now (clauses .exit) ≡ sets (now (clauses .entry)) at (gateWords full carry iff l) ⌝ }
+    ensures { λ _. ⌜ ((a b c o : Lit) → Named l a b c o → now (clauses .exit) ≡ sets (now (clauses .entry)) at (gateWords full carry iff a b c o)) ⌝ }
 {
     row_bc(clauses, at, FULL_CARRY_IF / 0x1_0000_0000, l);
     row_ac(clauses, at + 4, FULL_CARRY_IF / 0x1_0000, l);
@@ -182,7 +178,7 @@ fn full_carry_if(clauses: &mut [i32], at: usize, l: Lits)
 
 fn full_carry_only_if(clauses: &mut [i32], at: usize, l: Lits)
     requires { ⌜ at + 12 ≤ length (now clauses) ⌝ }
-    ensures { λ _. ⌜ now (clauses .exit) ≡ sets (now (clauses .entry)) at (gateWords full carry onlyif l) ⌝ }
+    ensures { λ _. ⌜ ((a b c o : Lit) → Named l a b c o → now (clauses .exit) ≡ sets (now (clauses .entry)) at (gateWords full carry onlyif a b c o)) ⌝ }
 {
     row_bc(clauses, at, FULL_CARRY_ONLY_IF / 0x1_0000_0000, l);
     row_ac(clauses, at + 4, FULL_CARRY_ONLY_IF / 0x1_0000, l);
@@ -191,7 +187,7 @@ fn full_carry_only_if(clauses: &mut [i32], at: usize, l: Lits)
 
 // The words of a gate's clauses, and the clauses. A gate is 4 for a full node, 2 for a carry and 1 for only-if, added up.
 fn gate_words(gate: u32) -> usize
-    ensures { λ r. ⌜ ((l : Lits) → r ≡ length (flat (gateBy gate l))) ⌝ }
+    ensures { λ r. ⌜ ((a b c o : Lit) → r ≡ length (flat (gateBy gate a b c o))) ⌝ }
 {
     match gate {
         0 => 8,
@@ -205,7 +201,7 @@ fn gate_words(gate: u32) -> usize
 }
 
 pub fn gate_clauses(gate: u32) -> usize
-    ensures { λ r. ⌜ ((l : Lits) → r ≡ length (gateBy gate l)) ⌝ }
+    ensures { λ r. ⌜ ((a b c o : Lit) → r ≡ length (gateBy gate a b c o)) ⌝ }
 {
     match gate {
         0 => 2,
@@ -219,8 +215,8 @@ pub fn gate_clauses(gate: u32) -> usize
 }
 
 fn write_gate(clauses: &mut [i32], at: usize, gate: u32, l: Lits)
-    requires { ⌜ at + length (flat (gateBy gate l)) ≤ length (now clauses) ⌝ }
-    ensures { λ _. ⌜ now (clauses .exit) ≡ sets (now (clauses .entry)) at (flat (gateBy gate l)) ⌝ }
+    requires { ⌜ ((a b c o : Lit) → at + length (flat (gateBy gate a b c o)) ≤ length (now clauses)) ⌝ }
+    ensures { λ _. ⌜ ((a b c o : Lit) → Named l a b c o → now (clauses .exit) ≡ sets (now (clauses .entry)) at (flat (gateBy gate a b c o))) ⌝ }
 {
     match gate {
         0 => half_sum_if(clauses, at, l),
@@ -236,7 +232,7 @@ fn write_gate(clauses: &mut [i32], at: usize, gate: u32, l: Lits)
 
 // A gate's clauses as one batch: where they fit whole they are stored, and the fill is raised in any case. A gate above 7 counts as 7.
 pub fn put_gate(clauses: &mut [i32], fill: usize, gate: u32, l: Lits) -> usize
-    ensures { λ r. ⌜ buffer r (now (clauses .exit)) ≡ lay (flat (gateBy gate l)) (buffer fill (now (clauses .entry))) ⌝ }
+    ensures { λ r. ⌜ ((a b c o : Lit) → Named l a b c o → buffer r (now (clauses .exit)) ≡ lay (flat (gateBy gate a b c o)) (buffer fill (now (clauses .entry)))) ⌝ }
 {
     let n = gate_words(gate);
     let end = clauses::raised(fill, n);

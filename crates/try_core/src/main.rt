@@ -97,6 +97,10 @@ fn unsigned(nums: &[i64], n: usize, i: usize, k: usize) -> u32 {
     try_io::as_u32(number(nums, n, i, k))
 }
 
+fn signed(nums: &[i64], n: usize, i: usize, k: usize) -> i32 {
+    try_io::as_i32(number(nums, n, i, k))
+}
+
 fn long(nums: &[i64], n: usize, i: usize, k: usize) -> u64 {
     let x = number(nums, n, i, k);
     if x < 0 {
@@ -419,10 +423,10 @@ fn say_filled(f: Filled) {
 fn gate(nums: &[i64], n: usize, m: Machine, clauses: &mut [i32]) -> Machine {
     let kind = unsigned(nums, n, m.place, 1);
     let l = Lits {
-        a: unsigned(nums, n, m.place, 2),
-        b: unsigned(nums, n, m.place, 3),
-        c: unsigned(nums, n, m.place, 4),
-        own: unsigned(nums, n, m.place, 5),
+        a: signed(nums, n, m.place, 2),
+        b: signed(nums, n, m.place, 3),
+        c: signed(nums, n, m.place, 4),
+        own: signed(nums, n, m.place, 5),
     };
     let fill = gates::put_gate(clauses, m.fill, kind, l);
     try_io::say_count(fill as u64);

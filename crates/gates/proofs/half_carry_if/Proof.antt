@@ -13,7 +13,7 @@ same-length c = search needs
 
 returns : tie.Need-returns
 unfolding packed
-returns c = half-carry-if _ _ _ (c .before .row-ab .ensures)
+returns c x y z o n = half-carry-if x y z o _ _ (c .before .row-ab .ensures x y z o n)
 
 pub half-carry-if-spec : {M : Type 1} → statement M
 half-carry-if-spec = tie.close (tie.spec row-ab-requires same-length returns)

@@ -19,7 +19,7 @@ same-length c = search needs
 
 returns : tie.Need-returns
 unfolding packed
-returns c = half-carry-only-if _ _ _ (c .before .before .before .before .row-a .ensures) (c .before .row-b .ensures)
+returns c x y z o n = half-carry-only-if x y z o _ _ (c .before .before .before .before .row-a .ensures x y z o n) (c .before .row-b .ensures x y z o n)
 
 pub half-carry-only-if-spec : {M : Type 1} → statement M
 half-carry-only-if-spec =

@@ -20,7 +20,7 @@ same-length c = search needs
 
 returns : tie.Need-returns
 unfolding packed
-returns c = half-sum _ _ _ iff (c .before .before .before .before .row-ab .ensures) (c .before .row-ab2 .ensures)
+returns c x y z o n = half-sum x y z o _ _ iff (c .before .before .before .before .row-ab .ensures x y z o n) (c .before .row-ab2 .ensures x y z o n)
 
 pub half-sum-if-spec : {M : Type 1} → statement M
 half-sum-if-spec =

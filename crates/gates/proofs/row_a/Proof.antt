@@ -1,9 +1,7 @@
 -- `row_a` stores the words of its row. Assumes nothing.
-use mathlib.Core.Path.{_∙_}
 use borrow.Author.Needs.{needs}
-use Rattle.literal.proofs.Signed.{back}
 use Rattle.gates.specs.Packed.{rowA}
-use Rattle.gates.proofs.Rows.{row-two}
+use Rattle.gates.proofs.Rows.{sent, row-two}
 use Rattle.gates.proofs.row_a.Statement.{statement}
 use Rattle.gates.proofs.row_a.Tie as tie
 
@@ -21,10 +19,14 @@ same-length c = search needs
 
 returns : tie.Need-returns
 unfolding rowA
-returns c =
+returns c x y z o n =
     let w = c .before .before .before in
-    let s = w .before .before .args in
-    row-two (s .clauses .now) (s .at) (back (record { sfits = w .before .signed-word .ok }) ∙ w .before .signed-word .ensures) (back (record { sfits = w .signed-word2 .ok }) ∙ w .signed-word2 .ensures) (c .before .store-two .ensures)
+    let told = w .before .before .before .struct-told .given in
+    let s = w .before .before .before .before .args in
+    row-two (s .clauses .now) (s .at)
+    (sent _ x (record { sfits = told .0 .1 }) (n .at-a) (record { sfits = w .before .before .signed-word .ok }) (w .before .before .signed-word .ensures))
+    (sent _ o (record { sfits = told .1 .1 .1 .0 .1 }) (n .at-own) (record { sfits = w .signed-word2 .ok }) (w .signed-word2 .ensures))
+    (c .before .store-two .ensures)
 
 pub row-a-spec : {M : Type 1} → statement M
 row-a-spec =

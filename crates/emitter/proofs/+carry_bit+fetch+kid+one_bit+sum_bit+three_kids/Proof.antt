@@ -3,47 +3,54 @@
 use Prim.Native.Nat.{_+_, _*_}
 use borrow.Author.Needs.{needs}
 use Rattle.emitter.specs.State.{bitOf}
-use Rattle.emitter.proofs.Steps.{node-idle, one-busy, in-order, fetch-sum, fetch-carry, fetch-lit, fetch-out}
+use Rattle.emitter.proofs.Steps.{node-idle, one-busy, in-order, fetch-sum, fetch-carry, fetch-lit, fetch-out, unwanted}
 use Prim.Native.Nat.{ℕ, _<_}
 use borrow.Fn.Kinds.{In}
 use borrow.Fn.PlainCycle.{Measures, is, falls, and}
 use Rattle.emitter.proofs.carry_bit.Reads as carry-bit
 use Rattle.emitter.proofs.carry_bit.Kinds as carry-bit-kinds
-use Rattle.emitter.proofs.+carry_bit+fetch+one_bit+sum_bit+three_kids.Lts-carry_bit as carry-bit-lts
+use Rattle.emitter.proofs.+carry_bit+fetch+kid+one_bit+sum_bit+three_kids.Lts-carry_bit as carry-bit-lts
 use Rattle.emitter.proofs.fetch.Reads as fetch
 use Rattle.emitter.proofs.fetch.Kinds as fetch-kinds
-use Rattle.emitter.proofs.+carry_bit+fetch+one_bit+sum_bit+three_kids.Lts-fetch as fetch-lts
+use Rattle.emitter.proofs.+carry_bit+fetch+kid+one_bit+sum_bit+three_kids.Lts-fetch as fetch-lts
+use Rattle.emitter.proofs.kid.Reads as kid
+use Rattle.emitter.proofs.kid.Kinds as kid-kinds
+use Rattle.emitter.proofs.+carry_bit+fetch+kid+one_bit+sum_bit+three_kids.Lts-kid as kid-lts
 use Rattle.emitter.proofs.one_bit.Reads as one-bit
 use Rattle.emitter.proofs.one_bit.Kinds as one-bit-kinds
-use Rattle.emitter.proofs.+carry_bit+fetch+one_bit+sum_bit+three_kids.Lts-one_bit as one-bit-lts
+use Rattle.emitter.proofs.+carry_bit+fetch+kid+one_bit+sum_bit+three_kids.Lts-one_bit as one-bit-lts
 use Rattle.emitter.proofs.sum_bit.Reads as sum-bit
 use Rattle.emitter.proofs.sum_bit.Kinds as sum-bit-kinds
-use Rattle.emitter.proofs.+carry_bit+fetch+one_bit+sum_bit+three_kids.Lts-sum_bit as sum-bit-lts
+use Rattle.emitter.proofs.+carry_bit+fetch+kid+one_bit+sum_bit+three_kids.Lts-sum_bit as sum-bit-lts
 use Rattle.emitter.proofs.three_kids.Reads as three-kids
 use Rattle.emitter.proofs.three_kids.Kinds as three-kids-kinds
-use Rattle.emitter.proofs.+carry_bit+fetch+one_bit+sum_bit+three_kids.Lts-three_kids as three-kids-lts
+use Rattle.emitter.proofs.+carry_bit+fetch+kid+one_bit+sum_bit+three_kids.Lts-three_kids as three-kids-lts
 use Rattle.emitter.proofs.child_dir.Reads as child-dir-reads
 use Rattle.emitter.proofs.claim.Reads as claim-reads
 use Rattle.emitter.proofs.finished.Reads as finished-reads
 use Rattle.emitter.proofs.kids_of.Reads as kids-of-reads
 use Rattle.emitter.proofs.started.Reads as started-reads
-use Rattle.emitter.proofs.+carry_bit+fetch+one_bit+sum_bit+three_kids.{statement}
-use Rattle.emitter.proofs.+carry_bit+fetch+one_bit+sum_bit+three_kids.Tie.{close}
+use Rattle.emitter.proofs.wanted.Reads as wanted-reads
+use Rattle.emitter.proofs.+carry_bit+fetch+kid+one_bit+sum_bit+three_kids.{statement}
+use Rattle.emitter.proofs.+carry_bit+fetch+kid+one_bit+sum_bit+three_kids.Tie.{close}
 
 abbrev μ-carry-bit : Measures 2 carry-bit-kinds.ps ℕ
-μ-carry-bit κs a = 4 * a .1 .1 .0 + 3
+μ-carry-bit κs a = 5 * a .1 .1 .0 + 4
 
 abbrev μ-fetch : Measures 2 fetch-kinds.ps ℕ
-μ-fetch κs a = 4 * a .1 .1 .1 .1 .0
+μ-fetch κs a = 5 * a .1 .1 .1 .1 .0
+
+abbrev μ-kid : Measures 2 kid-kinds.ps ℕ
+μ-kid κs a = 5 * a .1 .1 .1 .1 .0 + 1
 
 abbrev μ-one-bit : Measures 2 one-bit-kinds.ps ℕ
-μ-one-bit κs a = 4 * a .1 .1 .0 + 2
+μ-one-bit κs a = 5 * a .1 .1 .0 + 3
 
 abbrev μ-sum-bit : Measures 2 sum-bit-kinds.ps ℕ
-μ-sum-bit κs a = 4 * a .1 .1 .0 + 3
+μ-sum-bit κs a = 5 * a .1 .1 .0 + 4
 
 abbrev μ-three-kids : Measures 2 three-kids-kinds.ps ℕ
-μ-three-kids κs a = 4 * a .1 .1 .1 .1 .0 + 1
+μ-three-kids κs a = 5 * a .1 .1 .1 .1 .0 + 2
 
 abbrev carry-bit-at : ℕ → In 2 carry-bit-kinds.ps
 carry-bit-at t = and 2 carry-bit-kinds.ps (is 2 carry-bit-kinds.ps μ-carry-bit t) carry-bit.Pre
@@ -57,6 +64,12 @@ fetch-at t = and 2 fetch-kinds.ps (is 2 fetch-kinds.ps μ-fetch t) fetch.Pre
 
 abbrev fetch-below : ℕ → In 2 fetch-kinds.ps
 fetch-below t = and 2 fetch-kinds.ps (falls 2 fetch-kinds.ps _<_ μ-fetch t) fetch.Pre
+
+abbrev kid-at : ℕ → In 2 kid-kinds.ps
+kid-at t = and 2 kid-kinds.ps (is 2 kid-kinds.ps μ-kid t) kid.Pre
+
+abbrev kid-below : ℕ → In 2 kid-kinds.ps
+kid-below t = and 2 kid-kinds.ps (falls 2 kid-kinds.ps _<_ μ-kid t) kid.Pre
 
 abbrev one-bit-at : ℕ → In 2 one-bit-kinds.ps
 one-bit-at t = and 2 one-bit-kinds.ps (is 2 one-bit-kinds.ps μ-one-bit t) one-bit.Pre
@@ -129,6 +142,31 @@ fetch-returns-3 t c = search fetch-lit
 fetch-returns-4 : (t : ℕ) → fetch-lts.Need-returns-4 (fetch-claims t) (fetch-at t) fetch.Post
 fetch-returns-4 t c = search fetch-out
 
+-- what `kid` knows of the functions that it calls
+abbrev kid-claims : ℕ → kid-lts.Claims
+kid-claims t = (wanted-reads.Asked, wanted-reads.Learnt, fetch-below t, fetch.Post)
+
+kid-wanted-requires : (t : ℕ) → kid-lts.Need-wanted-requires (kid-claims t) (kid-at t) kid.Post
+kid-wanted-requires t c κs = search needs
+
+kid-fetch-requires : (t : ℕ) → kid-lts.Need-fetch-requires (kid-claims t) (kid-at t) kid.Post
+kid-fetch-requires t c κs = search needs
+
+kid-same-length : (t : ℕ) → kid-lts.Need-same-length (kid-claims t) (kid-at t) kid.Post
+kid-same-length t c = search needs
+
+kid-same-length-2 : (t : ℕ) → kid-lts.Need-same-length-2 (kid-claims t) (kid-at t) kid.Post
+kid-same-length-2 t c = search needs
+
+kid-returns : (t : ℕ) → kid-lts.Need-returns (kid-claims t) (kid-at t) kid.Post
+kid-returns t c = search needs
+
+kid-same-length-3 : (t : ℕ) → kid-lts.Need-same-length-3 (kid-claims t) (kid-at t) kid.Post
+kid-same-length-3 t c = search needs
+
+kid-returns-2 : (t : ℕ) → kid-lts.Need-returns-2 (kid-claims t) (kid-at t) kid.Post
+kid-returns-2 t c = search unwanted
+
 -- what `one_bit` knows of the functions that it calls
 abbrev one-bit-claims : ℕ → one-bit-lts.Claims
 one-bit-claims t = (claim-reads.Asked, claim-reads.Learnt, kids-of-reads.Asked, kids-of-reads.Learnt, started-reads.Asked, started-reads.Learnt, child-dir-reads.Asked, child-dir-reads.Learnt, three-kids-below t, three-kids.Post, finished-reads.Asked, finished-reads.Learnt)
@@ -189,16 +227,16 @@ sum-bit-returns t c = search needs
 
 -- what `three_kids` knows of the functions that it calls
 abbrev three-kids-claims : ℕ → three-kids-lts.Claims
-three-kids-claims t = (fetch-below t, fetch.Post)
+three-kids-claims t = (kid-below t, kid.Post)
 
-three-kids-fetch-requires : (t : ℕ) → three-kids-lts.Need-fetch-requires (three-kids-claims t) (three-kids-at t) three-kids.Post
-three-kids-fetch-requires t c κs = search needs
+three-kids-kid-requires : (t : ℕ) → three-kids-lts.Need-kid-requires (three-kids-claims t) (three-kids-at t) three-kids.Post
+three-kids-kid-requires t c κs = search needs
 
-three-kids-fetch-requires-2 : (t : ℕ) → three-kids-lts.Need-fetch-requires-2 (three-kids-claims t) (three-kids-at t) three-kids.Post
-three-kids-fetch-requires-2 t c κs = search needs
+three-kids-kid-requires-2 : (t : ℕ) → three-kids-lts.Need-kid-requires-2 (three-kids-claims t) (three-kids-at t) three-kids.Post
+three-kids-kid-requires-2 t c κs = search needs
 
-three-kids-fetch-requires-3 : (t : ℕ) → three-kids-lts.Need-fetch-requires-3 (three-kids-claims t) (three-kids-at t) three-kids.Post
-three-kids-fetch-requires-3 t c κs = search needs
+three-kids-kid-requires-3 : (t : ℕ) → three-kids-lts.Need-kid-requires-3 (three-kids-claims t) (three-kids-at t) three-kids.Post
+three-kids-kid-requires-3 t c κs = search needs
 
 three-kids-same-length : (t : ℕ) → three-kids-lts.Need-same-length (three-kids-claims t) (three-kids-at t) three-kids.Post
 three-kids-same-length t c = search needs
@@ -209,9 +247,9 @@ three-kids-same-length-2 t c = search needs
 three-kids-returns : (t : ℕ) → three-kids-lts.Need-returns (three-kids-claims t) (three-kids-at t) three-kids.Post
 three-kids-returns t c = search in-order
 
-pub +carry-bit+fetch+one-bit+sum-bit+three-kids-spec : {M : Type 1} → statement M
-+carry-bit+fetch+one-bit+sum-bit+three-kids-spec =
-    close μ-carry-bit μ-fetch μ-one-bit μ-sum-bit μ-three-kids (λ t. carry-bit-lts.spec (
+pub +carry-bit+fetch+kid+one-bit+sum-bit+three-kids-spec : {M : Type 1} → statement M
++carry-bit+fetch+kid+one-bit+sum-bit+three-kids-spec =
+    close μ-carry-bit μ-fetch μ-kid μ-one-bit μ-sum-bit μ-three-kids (λ t. carry-bit-lts.spec (
       one-bit-below t,
       one-bit.Post,
     )
@@ -235,6 +273,17 @@ pub +carry-bit+fetch+one-bit+sum-bit+three-kids-spec : {M : Type 1} → statemen
     (fetch-returns-2 t)
     (fetch-returns-3 t)
     (fetch-returns-4 t))
+    (λ t. kid-lts.spec
+    (wanted-reads.Asked, wanted-reads.Learnt, fetch-below t, fetch.Post)
+    (kid-at t)
+    kid.Post
+    (kid-wanted-requires t)
+    (kid-fetch-requires t)
+    (kid-same-length t)
+    (kid-same-length-2 t)
+    (kid-returns t)
+    (kid-same-length-3 t)
+    (kid-returns-2 t))
     (λ t. one-bit-lts.spec (
       claim-reads.Asked,
       claim-reads.Learnt,
@@ -271,12 +320,12 @@ pub +carry-bit+fetch+one-bit+sum-bit+three-kids-spec : {M : Type 1} → statemen
     (sum-bit-same-length-2 t)
     (sum-bit-returns t))
     λ t. three-kids-lts.spec
-    (fetch-below t, fetch.Post)
+    (kid-below t, kid.Post)
     (three-kids-at t)
     three-kids.Post
-    (three-kids-fetch-requires t)
-    (three-kids-fetch-requires-2 t)
-    (three-kids-fetch-requires-3 t)
+    (three-kids-kid-requires t)
+    (three-kids-kid-requires-2 t)
+    (three-kids-kid-requires-3 t)
     (three-kids-same-length t)
     (three-kids-same-length-2 t)
     (three-kids-returns t)
