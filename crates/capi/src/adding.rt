@@ -11,25 +11,47 @@ use crate::state::STATE_WORDS;
 use crate::state::read_state;
 use literal::Term;
 use party::Added;
+use party::Adding;
 use party::Reply;
 use party::State;
+use party::Tally;
 
-// The run of additions, a term a turn.
+// The run of additions, a term a turn, in two arrays that are lent to each step.
 fn add_lists(state: State, weights: &[u32], literals: &[i32]) -> Added
     requires { ⌜ length (now weights) ≡ length (now literals) ⌝ }
     ensures { λ r. ⌜ addedOf r ≡ addedTo (termsOf (now (weights .entry)) (now (literals .entry))) state ⌝ }
 {
-    let mut a = party::begin(state);
+    let a = party::begin(state);
+    let first = a.first;
+    let mut ws = a.weights;
+    let mut ls = a.words;
+    let mut tally = Tally {
+        count: a.count,
+        sum: a.sum,
+        bad: a.bad,
+        place: a.place,
+        full: a.full,
+    };
     let mut i = 0;
     while i < weights.len() {
         let t = Term {
             weight: weights[i],
             literal: literals[i],
         };
-        a = party::step(a, t, i);
+        tally = party::step_on(&mut ws, &mut ls, first, tally, t, i);
         i += 1;
     }
-    party::finish(a, state)
+    let b = Adding {
+        weights: ws,
+        words: ls,
+        count: tally.count,
+        first,
+        sum: tally.sum,
+        bad: tally.bad,
+        place: tally.place,
+        full: tally.full,
+    };
+    party::finish(b, state)
 }
 
 // The place of a bad term is told with that reply alone.

@@ -1,13 +1,23 @@
 -- The test of the state itself, where it stops at each of its parts; and the report. Assumes nothing.
 use mathlib.Core.Path.{_≡_, refl, sym, ap, _∙_}
 use mathlib.Core.Bool.{Bool, true, false, not, _&&_, _||_, true≢false}
-use Prim.Native.Nat.{ℕ, _<_, _≤_}
+use mathlib.Core.List.{List}
+use Prim.Native.Nat.{ℕ, _+_, _<_, _≤_}
 use lib.Dec.{ltb, leb}
+use lib.ListN.{length, take}
 use borrow.Author.Tests.{lt-ltb, le-ltb, ltb-true, ltb-false, leb-true}
 use Rattle.model.specs.Limits.{greatest, inRange, mostTerms, mostTotal, mostOutputs, mostNodes, mostBounds}
-use Rattle.model.specs.Machine.{Party, pending, totalOf}
+use Rattle.model.specs.Machine.{Party, pendingOf, pending, weighed, totalOf}
 use Rattle.model.specs.Damage.{anyBad, anyBadOutput, partyDamaged}
 use Rattle.model.specs.Calls.{told, silent, report}
+
+-- what the sum of the weights is told to be: the words, as many as the weights, say nothing on it
+abbrev pub SumsTo : Party → ℕ → Type 0
+SumsTo p t = (xs : List ℕ) → length xs ≡ mostTerms → t ≡ p .built + weighed (pendingOf (take (p .count) (p .weights)) (take (p .count) xs))
+
+pub summed-total : (p : Party) → length (p .words) ≡ mostTerms → (t : ℕ) → SumsTo p t → t ≡ totalOf p
+unfolding totalOf pending
+summed-total p long t h = h (p .words) long
 
 module _ (p : Party) (a : Bool) (at-first : a ≡ inRange (p .first)) where
   pub first-out : not a ≡ true → true ≡ partyDamaged p
@@ -19,26 +29,29 @@ module _ (p : Party) (a : Bool) (at-first : a ≡ inRange (p .first)) where
     unfolding partyDamaged
     count-over k = rw (← at-first, h, lt-ltb mostTerms (p .count) k)
 
-    module _ (few : p .count ≤ mostTerms) (b : Bool) (at-terms : b ≡ anyBad (p .first) (pending p)) where
+    module _ (few : p .count ≤ mostTerms) (b : Bool) (at-terms : b ≡ anyBad (p .first) (pendingOf (take (p .count) (p .weights)) (take (p .count) (p .words)))) where
       pub term-bad : b ≡ true → true ≡ partyDamaged p
-      unfolding partyDamaged
+      unfolding partyDamaged pending
       term-bad k = rw (← at-first, h, le-ltb mostTerms (p .count) few, ← at-terms, k)
 
-      module _ (good : b ≡ false) (t : ℕ) (at-total : t ≡ totalOf p) where
+      module _ (good : b ≡ false) (long : length (p .words) ≡ mostTerms) (t : ℕ) (summed : SumsTo p t) where
+        at-total : t ≡ totalOf p
+        at-total = summed-total p long t summed
+
         pub total-over : mostTotal < t → true ≡ partyDamaged p
-        unfolding partyDamaged
+        unfolding partyDamaged pending
         total-over k = rw (← at-first, h, le-ltb mostTerms (p .count) few, ← at-terms, good, ← at-total, lt-ltb mostTotal t k)
 
         module _ (light : t ≤ mostTotal) where
           pub outputs-over : mostOutputs < p .outputs .len → true ≡ partyDamaged p
-          unfolding partyDamaged
+          unfolding partyDamaged pending
           outputs-over k =
               rw (← at-first, h, le-ltb mostTerms (p .count) few, ← at-terms, good, ← at-total, le-ltb mostTotal t light, lt-ltb mostOutputs (p .outputs .len) k)
 
           module _ (narrow : p .outputs .len ≤ mostOutputs) (o : Bool) (at-outputs : o ≡ anyBadOutput (p .nodes) (p .outputs .words)) where
             -- what is left to test after the outputs
             rest : partyDamaged p ≡ o || ltb mostNodes (p .nodes) || ltb mostBounds (p .bounds) || ltb greatest (p .drawn)
-            unfolding partyDamaged
+            unfolding partyDamaged pending
             rest =
                 rw (← at-first, h, le-ltb mostTerms (p .count) few, ← at-terms, good, ← at-total, le-ltb mostTotal t light, le-ltb mostOutputs (p .outputs .len) narrow, ← at-outputs)
 

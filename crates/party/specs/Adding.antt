@@ -11,6 +11,7 @@ use Rattle.model.specs.Calls.{badTerm}
 use Rattle.literal.specs.declared.Term.{Term}
 use Rattle.party.specs.declared.State.{State}
 use Rattle.party.specs.declared.Adding.{Adding}
+use Rattle.party.specs.declared.Tally.{Tally}
 use Rattle.party.specs.Read.{termOf, partyOf}
 
 -- a state that holds nothing
@@ -36,6 +37,19 @@ emptyOf F = record {
 unfoldable pub firstOf : ℕ → List ℕ → ℕ
 firstOf w [] = 0
 firstOf w (x ∷ xs) = cond (eqb x w) 0 (suc (firstOf w xs))
+
+-- what is held, put together: F, the two arrays, and the rest
+abbrev pub held : ℕ → List ℕ → List ℕ → Tally → Adding
+held F ws xs a = record {
+  weights = ws;
+  words = xs;
+  count = a .count;
+  first = F;
+  sum = a .sum;
+  bad = a .bad;
+  place = a .place;
+  full = a .full;
+}
 
 -- what is held, with parts of it anew
 abbrev pub withSum : Adding → ℕ → Adding

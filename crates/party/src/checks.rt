@@ -1,11 +1,11 @@
 // The tests of the state's own words and of a term. Each reads what it is given, whatever stands there.
 ghost use mathlib.Core.Path.{_≡_};
 ghost use Prim.Native.Nat.{min};
-ghost use Rattle.model.specs.Machine.{pending};
+ghost use lib.ListN.{length, take};
+ghost use Rattle.model.specs.Machine.{pendingOf};
 ghost use Rattle.model.specs.Damage.{badPending, anyBad, badOutput, anyBadOutput};
 ghost use Rattle.model.specs.Calls.{badTerm};
-ghost use Rattle.party.specs.Read.{termOf, partyOf};
-use crate::Party;
+ghost use Rattle.party.specs.Read.{termOf};
 use literal::GREATEST;
 use literal::Literal;
 use literal::MOST_TERMS;
@@ -39,15 +39,15 @@ pub fn bad_pending(first: u32, weight: u32, word: u32) -> bool
     first <= n
 }
 
-// One of the pending terms is.
-pub fn any_bad(p: Party) -> bool
-    ensures { λ r. ⌜ r ≡ anyBad (p .first) (pending (partyOf p)) ⌝ }
+// One of the pending terms is. Both arrays are lent at one lifetime, as fields of one struct have to be.
+pub fn any_bad<'a>(first: u32, weights: &'a [u32], words: &'a [u32], count: usize) -> bool
+    requires { ⌜ (length (now weights) ≡ 128) × (length (now words) ≡ 128) ⌝ }
+    ensures { λ r. ⌜ r ≡ anyBad first (pendingOf (take count (now (weights .entry))) (take count (now (words .entry)))) ⌝ }
 {
-    let n = places(p.count);
-    let first = p.first;
+    let n = places(count);
     let mut i = 0;
     while i < n {
-        if bad_pending(first, p.weights[i], p.words[i]) {
+        if bad_pending(first, weights[i], words[i]) {
             return true;
         }
         i += 1;
@@ -69,13 +69,13 @@ pub fn bad_output(nodes: u32, word: u32) -> bool
 }
 
 // One of the 48 outputs is.
-pub fn any_bad_output(p: Party) -> bool
-    ensures { λ r. ⌜ r ≡ anyBadOutput (p .nodes) (p .outputs) ⌝ }
+pub fn any_bad_output(nodes: u32, outputs: &[u32]) -> bool
+    requires { ⌜ length (now outputs) ≡ 48 ⌝ }
+    ensures { λ r. ⌜ r ≡ anyBadOutput nodes (now (outputs .entry)) ⌝ }
 {
-    let nodes = p.nodes;
     let mut i = 0;
     while i < OUTPUTS {
-        if bad_output(nodes, p.outputs[i]) {
+        if bad_output(nodes, outputs[i]) {
             return true;
         }
         i += 1;

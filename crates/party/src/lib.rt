@@ -1,17 +1,20 @@
 // The encoder's state by value: its start, the pending terms that are added to it, its report, and the test whether it is damaged.
-// None of these is lent a table. Every function is total: each state is read, a damaged one too.
+// None of these is lent a table. Every function is total: each state is read, a damaged one too. `step_on` alone asks for something: that
+// the lists which it is lent have 128 places.
 mod checks;
 mod laying;
 
 ghost use mathlib.Core.Path.{_≡_};
 ghost use mathlib.Core.List.{List, [], _∷_, map};
+ghost use Prim.Native.Nat.{ℕ, _+_};
+ghost use lib.ListN.{length, take};
 ghost use Rattle.model.specs.Limits.{inRange};
 ghost use Rattle.model.specs.Replies.{number};
-ghost use Rattle.model.specs.Machine.{totalOf};
+ghost use Rattle.model.specs.Machine.{pendingOf, weighed, totalOf};
 ghost use Rattle.model.specs.Damage.{partyDamaged};
 ghost use Rattle.model.specs.Calls.{start, report};
 ghost use Rattle.literal.specs.declared.Term.{Term};
-ghost use Rattle.party.specs.Adding.{emptyOf, beginOf, stepOf, stepAll};
+ghost use Rattle.party.specs.Adding.{emptyOf, beginOf, held, stepOf, stepAll};
 ghost use Rattle.party.specs.Read.{termOf, partyOf, replyOf, startedOf, addedOf, addedTo, reportOf};
 use checks::any_bad;
 use checks::any_bad_output;
@@ -162,18 +165,26 @@ pub fn start(first: u32) -> Started
     }
 }
 
+// The total built already and the first count of 128 weights.
+fn total_of(weights: &[u32], count: usize, built: u32) -> u64
+    requires { ⌜ length (now weights) ≡ 128 ⌝ }
+    ensures { λ r. ⌜ ((xs : List ℕ) → length xs ≡ 128 → r ≡ built + weighed (pendingOf (take count (now (weights .entry))) (take count xs))) ⌝ }
+{
+    let n = places(count);
+    let mut sum = built as u64;
+    let mut i = 0;
+    while i < n {
+        sum += weights[i] as u64;
+        i += 1;
+    }
+    sum
+}
+
 // The total of all weights, those built already and those pending.
 pub fn total(p: Party) -> u64
     ensures { λ r. ⌜ r ≡ totalOf (partyOf p) ⌝ }
 {
-    let n = places(p.count);
-    let mut sum = p.built as u64;
-    let mut i = 0;
-    while i < n {
-        sum += p.weights[i] as u64;
-        i += 1;
-    }
-    sum
+    total_of(&p.weights, p.count, p.built)
 }
 
 // Whether the state is damaged in itself: a count or the total above its limit, a bad pending term, a bad output.
@@ -186,16 +197,16 @@ pub fn damaged(p: Party) -> bool
     if MOST_TERMS < p.count {
         return true;
     }
-    if any_bad(p) {
+    if any_bad(p.first, &p.weights, &p.words, p.count) {
         return true;
     }
-    if MOST_SUM < total(p) {
+    if MOST_SUM < total_of(&p.weights, p.count, p.built) {
         return true;
     }
     if OUTPUTS < p.len {
         return true;
     }
-    if any_bad_output(p) {
+    if any_bad_output(p.nodes, &p.outputs) {
         return true;
     }
     if MOST_NODES < p.nodes as usize {
@@ -236,6 +247,15 @@ pub struct Adding {
     pub full: bool,
 }
 
+// What a run holds beside its two arrays and F.
+pub struct Tally {
+    pub count: usize,
+    pub sum: u64,
+    pub bad: bool,
+    pub place: usize,
+    pub full: bool,
+}
+
 // A run that has added nothing yet.
 pub fn begin(state: State) -> Adding
     ensures { λ r. ⌜ r ≡ beginOf state ⌝ }
@@ -256,15 +276,24 @@ pub fn begin(state: State) -> Adding
     }
 }
 
-// One term, which stands at the place i of the list. The first bad term ends the work, and a total that passed its limit stays.
-pub fn step(a: Adding, t: Term, i: usize) -> Adding
-    ensures { λ r. ⌜ r ≡ stepOf a t i ⌝ }
+// One term, which stands at the place i of the list, in a run whose arrays are lent, so that none is copied. The first bad term ends the
+// work, and a total that passed its limit stays.
+pub fn step_on(
+    weights: &mut [u32],
+    words: &mut [u32],
+    first: u32,
+    a: Tally,
+    t: Term,
+    i: usize,
+) -> Tally
+    requires { ⌜ (length (now weights) ≡ 128) × (length (now words) ≡ 128) ⌝ }
+    ensures { λ r. ⌜ held first (now (weights .exit)) (now (words .exit)) r ≡ stepOf (held first (now (weights .entry)) (now (words .entry)) a) t i ⌝ }
 {
     let mut new = a;
     if new.bad {
         return new;
     }
-    if bad_term(a.first, t) {
+    if bad_term(first, t) {
         new.bad = true;
         new.place = i;
         return new;
@@ -280,7 +309,33 @@ pub fn step(a: Adding, t: Term, i: usize) -> Adding
     }
     let l = t.literal;
     let word = Literal { word: l }.connection();
-    lay(a, weight, word, sum)
+    lay(weights, words, a, weight, word, sum)
+}
+
+// The same step, of a run by value.
+pub fn step(a: Adding, t: Term, i: usize) -> Adding
+    ensures { λ r. ⌜ r ≡ stepOf a t i ⌝ }
+{
+    let mut weights = a.weights;
+    let mut words = a.words;
+    let tally = Tally {
+        count: a.count,
+        sum: a.sum,
+        bad: a.bad,
+        place: a.place,
+        full: a.full,
+    };
+    let r = step_on(&mut weights, &mut words, a.first, tally, t, i);
+    Adding {
+        weights,
+        words,
+        count: r.count,
+        first: a.first,
+        sum: r.sum,
+        bad: r.bad,
+        place: r.place,
+        full: r.full,
+    }
 }
 
 // The answer, in the order of the refusals: a refusal leaves the state as it was.

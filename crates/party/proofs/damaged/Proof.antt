@@ -1,5 +1,7 @@
 -- `damaged` is the model's test of the state. Assumes nothing.
 use borrow.Author.Needs.{needs}
+use mathlib.Core.Path.{_≡_}
+use lib.ListN.{length}
 use Rattle.party.proofs.Damaging.{first-out, count-over, term-bad, total-over, outputs-over, output-bad, nodes-over, bounds-over, drawn-over}
 use Rattle.party.proofs.damaged.Statement.{statement}
 use Rattle.party.proofs.damaged.Tie as tie
@@ -19,8 +21,8 @@ any-bad-requires c κs = search needs
 returns-3 : tie.Need-returns-3
 returns-3 c = search term-bad
 
-total-requires : tie.Need-total-requires
-total-requires c κs = search needs
+total-of-requires : tie.Need-total-of-requires
+total-of-requires c κs = search needs
 
 returns-4 : tie.Need-returns-4
 returns-4 c = search total-over
@@ -48,13 +50,16 @@ returns-8 c = search bounds-over
 
 returns-9 : tie.Need-returns-9
 returns-9 c =
-    let outputs = c .before .before .before .before .before .before in
-    let sum = outputs .before .before .before .before in
-    let terms = sum .before .before in
-    let range = terms .before .before .before .before in
-    drawn-over _ _ (range .in-range .ensures) (terms .before .before .before .if1 .left) (terms .before .if2 .left) _ (terms .any-bad .ensures)
-    (sum .before .if3 .left) _ (sum .total .ensures) (outputs .before .before .before .if4 .left) (outputs .before .if5 .left) _ (outputs .any-bad-output .ensures)
-    (c .before .before .before .before .before .if6 .left) (c .before .before .before .if7 .left) (c .before .if8 .left)
+    let outputs = c .before .before .before in
+    let narrow = outputs .before .before .before .before in
+    let sum = narrow .before .before in
+    let good = sum .before .before .before .before in
+    let terms = good .before in
+    let few = terms .before .before .before .before .before .before in
+    let range = few .before .before in
+    let long : length (range .before .args .t1 .words) ≡ 128 = search needs in
+    drawn-over _ _ (range .in-range .ensures) (few .before .if1 .left) (few .if2 .left) _ (terms .any-bad .ensures) (good .if3 .left) long _ (sum .total-of .ensures)
+    (narrow .before .if4 .left) (narrow .if5 .left) _ (outputs .any-bad-output .ensures) (c .before .before .if6 .left) (c .before .if7 .left) (c .if8 .left)
 
 pub damaged-spec : {M : Type 1} → statement M
 damaged-spec =
@@ -65,7 +70,7 @@ damaged-spec =
     returns-2
     any-bad-requires
     returns-3
-    total-requires
+    total-of-requires
     returns-4
     returns-5
     any-bad-output-requires

@@ -1,34 +1,36 @@
--- `find` gives the place of the first word that equals one. The loop's invariant: it lies as far from here as in what is left.
--- Assumes nothing.
+-- `find` gives the place of the first word that equals one. Assumes nothing.
 use borrow.Author.Needs.{needs}
-use mathlib.Core.Path.{_≡_}
-use Prim.Native.Nat.{_+_, _-_, _≤_}
-use native.Mathlib.Omega.{arith}
-use lib.ListN.{length, take, drop}
-use Rattle.party.specs.Adding.{firstOf}
-use Rattle.party.proofs.Rest.{found, passed, missed}
+use Prim.Native.Nat.{_-_}
+use Rattle.party.proofs.Rest.{Searched, searched-start, searched-more, searched-all}
 use Rattle.party.proofs.laying.find.Statement.{statement}
 use Rattle.party.proofs.laying.find.Tie as tie
 
 abbrev Inv-loop : tie.InvT-loop
-Inv-loop n word words i₀ i = (i ≤ n) × (i + firstOf word (drop i (take n words)) ≡ firstOf word (take n words))
+Inv-loop words n word none k₀ i₀ k i = Searched word words n k i
 
 abbrev μ-loop : tie.MeasureT-loop
-μ-loop n word words i₀ i = n - i
+μ-loop words n word none k₀ i₀ k i = n - i
+
+cast-none : tie.Need-cast-none Inv-loop μ-loop
+cast-none c = search needs
 
 loop-holds : tie.Need-loop-holds Inv-loop μ-loop
-loop-holds c = (omega arith, omega arith)
+loop-holds c = search searched-start
 
-mul-if1 : tie.Need-mul-if1 Inv-loop μ-loop
-mul-if1 c = search needs
+mul-spot : tie.Need-mul-spot Inv-loop μ-loop
+mul-spot c = search needs
 
-array-read-if1 : tie.Need-array-read-if1 Inv-loop μ-loop
-array-read-if1 c = search needs
+shared-slice-read-spot : tie.Need-shared-slice-read-spot Inv-loop μ-loop
+shared-slice-read-spot c = search needs
 
-returns : tie.Need-returns Inv-loop μ-loop
-returns c =
-    let k : length (c .before .before .before .args .t1) ≡ 128 = search needs in
-    found (c .before .before .before .args .word) (c .before .before .before .args .t1) (c .before .before .before .args .n) _ _ (c .before .before .loop .inv .1) (omega arith) (omega arith) (c .if1 .taken)
+cast-spot : tie.Need-cast-spot Inv-loop μ-loop
+cast-spot c = search needs
+
+spot-requires : tie.Need-spot-requires Inv-loop μ-loop
+spot-requires c κs = search needs
+
+lower-requires : tie.Need-lower-requires Inv-loop μ-loop
+lower-requires c κs = search needs
 
 add-i : tie.Need-add-i Inv-loop μ-loop
 add-i c = search needs
@@ -37,12 +39,13 @@ loop-less : tie.Need-loop-less Inv-loop μ-loop
 loop-less c = search needs
 
 loop-again : tie.Need-loop-again Inv-loop μ-loop
-loop-again c =
-    let k : length (c .before .before .before .args .t1) ≡ 128 = search needs in
-    (omega arith, passed (c .before .before .before .args .word) (c .before .before .before .args .t1) (c .before .before .before .args .n) _ _ (c .before .before .loop .inv .1) (omega arith) (omega arith) (c .if1 .left))
+loop-again c = search searched-more
 
-returns-2 : tie.Need-returns-2 Inv-loop μ-loop
-returns-2 c = missed _ _ _ _ _ (c .before .loop .inv .1) (omega arith) (omega arith)
+cast-result : tie.Need-cast-result Inv-loop μ-loop
+cast-result c = search needs
+
+returns : tie.Need-returns Inv-loop μ-loop
+returns c = search searched-all
 
 pub find-spec : {M : Type 1} → statement M
 find-spec =
@@ -50,11 +53,15 @@ find-spec =
     (tie.spec
     Inv-loop
     μ-loop
+    cast-none
     loop-holds
-    mul-if1
-    array-read-if1
-    returns
+    mul-spot
+    shared-slice-read-spot
+    cast-spot
+    spot-requires
+    lower-requires
     add-i
     loop-less
     loop-again
-    returns-2)
+    cast-result
+    returns)
