@@ -1,13 +1,12 @@
 -- A variable's value among bytes, the evaluator's number, and a drawing, on each way. Assumes nothing.
-use mathlib.Core.Path.{_≡_, refl, sym, ap, ap₂, _∙_}
-use mathlib.Core.Bool.{Bool, true, false, cond, not}
+use mathlib.Core.Path.{_≡_, refl, sym, ap, _∙_}
+use mathlib.Core.Bool.{Bool, true, false, not}
 use mathlib.Core.List.{List}
 use Prim.Native.Nat.{ℕ, zero, suc, _-_, _≤_, _<_}
 use native.Mathlib.Omega.{arith}
 use lib.Dec.{eqb}
 use lib.ListN.{length, getD, set, List·getD-eq-default}
 use borrow.Author.Tests.{eq-eqb, ne-eqb}
-use Rattle.model.specs.Nodes.{drawnNumber, drawnNext}
 use Rattle.source.specs.Draw.{Draws}
 use Rattle.capi.specs.Asks.{answer}
 use Rattle.capi.specs.Checks.{valued, truth, drawWords}

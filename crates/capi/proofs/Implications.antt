@@ -1,13 +1,13 @@
 -- The implications by number, branch by branch. Assumes nothing.
-use mathlib.Core.Path.{_≡_, refl, sym, ap, _∙_}
-use mathlib.Core.Bool.{Bool, true, false, cond, not}
-use mathlib.Core.List.{List, [], _∷_}
+use mathlib.Core.Path.{_≡_, ap}
+use mathlib.Core.Bool.{Bool, true, false, not}
+use mathlib.Core.List.{List}
 use Prim.Native.Nat.{ℕ, _≤_, _<_}
 use lib.Dec.{eqb}
 use lib.IntN.{ℤ}
 use lib.ListN.{length, getD, set}
 use borrow.Author.Tests.{eq-eqb, ne-eqb, le-leb, lt-leb, not-true, not-false}
-use Rattle.model.specs.Replies.{Reply, number}
+use Rattle.model.specs.Replies.{number}
 use Rattle.model.specs.Words.{buffer}
 use Rattle.model.specs.Implications as model
 use Rattle.implications.specs.Read.{sideOf, replyOf, fillAfter, resultOf}
@@ -17,7 +17,7 @@ use Rattle.implications.specs.declared.Side.{Side}
 use Rattle.implications.specs.declared.Side.the-variants as side
 use Rattle.capi.specs.Lent.{placeAfter}
 use Rattle.capi.specs.Asks.{Answer, answer}
-use Rattle.capi.specs.Implies.{oneOf, sideBy, leftSide, rightSide, sized, formed, fillTold, implies, impliesTo, implyWords}
+use Rattle.capi.specs.Implies.{oneOf, sideBy, sized, formed, fillTold, implies, impliesTo, implyWords}
 
 module _ (k a b c : ℕ) where
   pub one-first : k ≡ a → true ≡ oneOf k a b c

@@ -1,9 +1,9 @@
 -- The reifications by number, branch by branch. Assumes nothing.
-use mathlib.Core.Path.{_≡_, refl, sym, ap, _∙_}
-use mathlib.Core.Bool.{Bool, true, false, cond, not, _&&_}
+use mathlib.Core.Path.{_≡_, ap}
+use mathlib.Core.Bool.{Bool, true, false, not, _&&_}
 use mathlib.Core.List.{List, [], _∷_}
 use Prim.Native.Nat.{ℕ, _≤_, _<_}
-use lib.Dec.{eqb, leb}
+use lib.Dec.{leb}
 use lib.IntN.{ℤ}
 use lib.ListN.{length}
 use borrow.Author.Tests.{eq-eqb, ne-eqb, le-leb, lt-leb, not-true, not-false}
@@ -21,7 +21,7 @@ use Rattle.reifications.specs.declared.Reified.the-variants as reified
 use Rattle.reifications.specs.declared.Way.{Way}
 use Rattle.reifications.specs.declared.Way.the-variants as way
 use Rattle.capi.specs.Asks.{Answer, answer}
-use Rattle.capi.specs.Reifies.{wayBy, boundBy, orderNumber, madeTold, Reifies, reifies, reifiesTo, reifyWords}
+use Rattle.capi.specs.Reifies.{wayBy, boundBy, orderNumber, madeTold, reifies, reifiesTo, reifyWords}
 
 pub way-first : (d : ℕ) → d ≡ 0 → wayOf way.LitImplies ≡ wayBy d
 unfolding wayOf wayBy

@@ -10,7 +10,7 @@ use Rattle.model.specs.Replies.{Reply, number, Accepted, BadTerm, SumTooLarge, 
 use Rattle.model.specs.Machine as machine
 use Rattle.model.specs.Bounds.{Range}
 use Rattle.model.specs.Calls as calls
-use Rattle.party.specs.Read.{machineOf, partyOf, sharedOf}
+use Rattle.party.specs.Read.{machineOf}
 use Rattle.capi.specs.Words.{stateAt, wordsOf}
 
 -- "Every refusal leaves state, source and all lent memory unchanged": the new words with the reply 0, and else the lent ones

@@ -1,5 +1,5 @@
 -- One step of the evaluator: the model's `wordsTrue`, a word at a time. Assumes nothing: these are definitions.
-use mathlib.Core.Bool.{Bool, true, false, not, _||_}
+use mathlib.Core.Bool.{Bool, false, not, _||_}
 use Prim.Native.Nat.{ℕ, zero, suc}
 use lib.IntN.{ℤ, pos, negsuc}
 use Rattle.model.specs.Logic.{litTrue}

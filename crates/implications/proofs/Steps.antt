@@ -3,12 +3,11 @@
 use mathlib.Core.Path.{_≡_, refl, sym, ap, ap₂, _∙_}
 use mathlib.Core.Bool.{Bool, true, false, cond, _&&_}
 use mathlib.Core.List.{List, [], _∷_, _++_, map, append-nil}
-use Prim.Native.Nat.{ℕ, zero, suc, _+_, _-_, _%_, _≤_, _<_, min}
+use Prim.Native.Nat.{ℕ, zero, suc, _+_, _-_, _≤_, _<_, min}
 use native.Mathlib.Numerals.{add-one}
 use native.Mathlib.Omega.{arith}
-use borrow.Author.Tests.{leb-true, lt-ltb, le-ltb}
-use lib.Dec.{leb}
-use lib.IntN.{ℤ, pos, negsuc, negℤ}
+use borrow.Author.Tests.{lt-ltb, le-ltb}
+use lib.IntN.{ℤ, pos}
 use lib.ListN.{length, drop, take, getD, drop-of-length-le, length-append}
 use lib.Seq.{drop-cons}
 use mir.Syntax.{w32}
@@ -17,8 +16,8 @@ use Rattle.literal.proofs.Signed.{back}
 use Rattle.clauses.specs.Parts.{turnedWord, turned}
 use Rattle.model.proofs.Buffer.{layAll-fill, layAll-fits}
 use Rattle.model.proofs.Literals.{both, litOf-word}
-use Rattle.model.specs.Limits.{greatest, inRange, mostFill}
-use Rattle.model.specs.Logic.{Lit, neg, variable, isLit}
+use Rattle.model.specs.Limits.{mostFill}
+use Rattle.model.specs.Logic.{Lit, neg}
 use Rattle.model.specs.Words.{word, litOf, isLiteral, negated, clauseWords, Buffer, buffer, raised, lay, layAll}
 use Rattle.model.specs.Implications.{Side, cube, clause, apart, lefts, rights, joined, row, table, implication, implicationWords, firstBad, implied, replied}
 use Rattle.model.specs.Replies as replies

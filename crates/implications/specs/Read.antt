@@ -3,7 +3,7 @@ use mathlib.Core.Bool.{Bool, true, _&&_}
 use mathlib.Core.List.{List, [], _∷_}
 use Prim.Native.Nat.{ℕ}
 use lib.IntN.{ℤ}
-use Rattle.model.specs.Words.{Buffer, buffer, isLiteral}
+use Rattle.model.specs.Words.{buffer, isLiteral}
 use Rattle.model.specs.Replies as replies
 use Rattle.model.specs.Implications as model
 use Rattle.implications.specs.declared.Implied.{Implied}

@@ -1,24 +1,23 @@
 -- The law of listing: what is folded from a text of fewer than 2^64 bytes holds the model's terms of its lines. Assumes nothing.
-use mathlib.Core.Path.{_≡_, refl, ap, sym, _∙_}
+use mathlib.Core.Path.{_≡_, refl, _∙_}
 use mathlib.Core.Bool.{Bool, true, false, cond}
 use mathlib.Core.List.{List, [], _∷_, _++_}
-use Prim.Native.Nat.{ℕ, zero, suc, _+_, _*_, _-_, _%_, _≤_, _<_, min}
+use Prim.Native.Nat.{ℕ, zero, suc, _+_, _*_, _-_, _%_, _≤_, _<_}
 use native.Mathlib.Omega.{arith}
 use borrow.Author.Tests.{lt-ltb, le-ltb, ltb-true, ltb-false}
 use lib.Dec.{ltb}
-use lib.IntN.{ℤ, pos, negℤ}
-use lib.ListN.{length, getD, set, take, length-set, length-append, length-take}
+use lib.ListN.{length, getD, set, take, length-set}
 use lib.Seq.{getD-set-same, getD-set-other}
 use Rattle.model.specs.Limits.{mostFill}
 use Rattle.model.specs.Logic.{Lit, pL, nL, Term, term}
 use Rattle.model.specs.Words.{word, raised}
-use Rattle.model.specs.Text.{Line, firstLine, termLine, upperLine, lowerLine, noLine, lineOf, linesOf, decimal, signedDecimal}
+use Rattle.model.specs.Text.{Line, firstLine, termLine, upperLine, lowerLine, noLine, lineOf, linesOf}
 use Rattle.model.specs.Legend.{mostListed, termIn, termsIn, termText, termTexts}
 use Rattle.text.specs.Scans.{beginOf}
 use Rattle.text.specs.Folding.{folded, foldLines, foldBytes, foldEnd}
 use Rattle.text.proofs.Folding.{by-lines}
 use Rattle.legends.specs.Listed.{packed, unpacked, noted, Listed, listed, closed, HeldFrom, none, more, Holds}
-use Rattle.legends.specs.Rest.{rowText, listedLine, listedLines}
+use Rattle.legends.specs.Rest.{listedLines}
 
 -- a literal's word, packed and unpacked
 pub same-word : (l : Lit) → unpacked (packed l) ≡ word l

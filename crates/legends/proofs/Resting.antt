@@ -1,23 +1,21 @@
 -- What a turn puts, and what is still to be written after it, are what was to be written; and less is left to do. Assumes nothing.
 use mathlib.Core.Path.{_≡_, refl, ap, ap₂, sym, _∙_}
-use mathlib.Core.Bool.{Bool, true, false, cond, _&&_}
-use mathlib.Core.List.{List, [], _∷_, _++_, append-assoc, append-nil}
-use Prim.Native.Nat.{ℕ, zero, suc, _+_, _*_, _-_, _≤_, _<_, min}
+use mathlib.Core.Bool.{Bool, true, false}
+use mathlib.Core.List.{List, [], _++_, append-assoc, append-nil}
+use Prim.Native.Nat.{ℕ, zero, suc, _+_, _-_, _≤_, _<_, min}
 use native.Mathlib.Omega.{arith}
-use borrow.Author.Tests.{lt-ltb, le-ltb, ltb-true, ltb-false}
+use borrow.Author.Tests.{ltb-true, ltb-false}
 use lib.Dec.{ltb}
-use lib.IntN.{ℤ, pos}
-use lib.ListN.{length, getD}
 use Rattle.model.specs.Bounds.{run}
 use Rattle.model.specs.Machine.{Machine}
-use Rattle.model.specs.Program.{Asked, stopped, outcomeText}
-use Rattle.model.specs.Legend.{mostListed, headLine, moreLine, pendingLine, numberLine, numberLines, boundLine, boundLines, askedLines}
+use Rattle.model.specs.Program.{Asked, outcomeText}
+use Rattle.model.specs.Legend.{mostListed, moreLine, pendingLine, numberLine, numberLines, boundLine, boundLines, askedLines}
 use Rattle.plan.specs.Read.{askedAt, askedFrom}
 use Rattle.printing.specs.Rest.{refusalLine, leftAnswers}
 use Rattle.printing.proofs.Resting.{left-some}
 use Rattle.legends.specs.declared.Part.{Part}
 use Rattle.legends.specs.declared.Part.the-variants.{Head, Terms, Numbers, Answers, Refused, Done}
-use Rattle.legends.specs.Rest.{Legend, rowText, listedLine, listedLines, listedParts, listedNext, numbersParts, numbersNext, questionParts, askedParts, askedNext, partsOf, nextOf, answersFrom, numbersFrom, termsFrom, restText, leftNumbers, left, finishedAt}
+use Rattle.legends.specs.Rest.{Legend, rowText, listedLine, listedLines, listedParts, listedNext, numbersParts, numbersNext, askedParts, askedNext, partsOf, nextOf, answersFrom, numbersFrom, termsFrom, restText, left, finishedAt}
 use Rattle.legends.proofs.Texts.{head-text, tail-text, number-text, question-text}
 
 -- the answers from the first question of a line on; one line more, one question more

@@ -2,7 +2,7 @@
 use mathlib.Core.Path.{_≡_, refl, ap, sym, _∙_}
 use mathlib.Core.Bool.{Bool, true, false, cond, _&&_}
 use mathlib.Core.List.{List, [], _∷_, _++_, append-assoc, append-nil}
-use Prim.Native.Nat.{ℕ, zero, suc, _+_, _*_, _-_, _≤_, _<_, min}
+use Prim.Native.Nat.{ℕ, suc, _+_, _*_, _-_, _≤_, min}
 use native.Mathlib.Omega.{arith}
 use lib.Dec.{ltb}
 use lib.IntN.{ℤ, pos}
@@ -12,7 +12,7 @@ use Rattle.model.specs.Words.{word}
 use Rattle.model.specs.Signs.{sum, carry, Dir, iff, onlyif}
 use Rattle.model.specs.Machine.{Party, Machine, totalOf}
 use Rattle.model.specs.Calls.{Enforced, nothing, literal, refused, enforceUpper, enforceLower, Meant, input, bound, bitOf, dropped, droppedOrCallers, foreign, damaged, explain}
-use Rattle.model.specs.Text.{decimal, signedDecimal}
+use Rattle.model.specs.Text.{decimal}
 use Rattle.model.specs.Legend.{mostListed, endLine, boundWords, meantText, headLine, moreLine, pendingLine, numberLine, answeredLine, boundLine}
 use Rattle.plan.specs.Read.{askedAt}
 use Rattle.text.proofs.Laying.{decimal-short, signed-short}

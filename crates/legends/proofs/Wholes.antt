@@ -2,9 +2,9 @@
 use mathlib.Core.Path.{_≡_, refl, ap, ap₂, sym, _∙_}
 use mathlib.Core.Bool.{true}
 use mathlib.Core.List.{List, [], _∷_, _++_, append-assoc, append-nil, flatten}
-use Prim.Native.Nat.{ℕ, suc, _-_, min}
+use Prim.Native.Nat.{ℕ, _-_, min}
 use native.Mathlib.Omega.{arith}
-use lib.IntN.{ℤ, pos}
+use lib.IntN.{ℤ}
 use lib.ListN.{length, take, length-take}
 use Rattle.model.specs.Logic.{Term}
 use Rattle.model.specs.Signs.{Dir, iff, onlyif}
@@ -12,9 +12,9 @@ use Rattle.model.specs.Bounds.{run}
 use Rattle.model.specs.Machine.{Machine}
 use Rattle.model.specs.Damage.{tablesDamaged}
 use Rattle.model.specs.Calls.{explain}
-use Rattle.model.specs.Program.{Asked, going, outcomeText, outcomeOf}
+use Rattle.model.specs.Program.{Asked, going, outcomeOf}
 use Rattle.model.specs.Text.{linesOf}
-use Rattle.model.specs.Legend.{mostListed, bitsOf, headLine, termTexts, moreLine, pendingLine, numberLine, numberLines, boundLine, boundLines, askedLines, legendOf, outcomeLegend, termsIn, legendText}
+use Rattle.model.specs.Legend.{mostListed, bitsOf, headLine, termTexts, numberLine, numberLines, boundLine, boundLines, askedLines, legendOf, outcomeLegend, termsIn, legendText}
 use Rattle.party.specs.Read.{machineOf}
 use Rattle.plan.specs.Read.{askedFrom, goingOf, outcome}
 use Rattle.plan.specs.declared.Plan.{Plan}
@@ -26,7 +26,7 @@ use Rattle.legends.specs.Listed.{Holds}
 use Rattle.legends.specs.Placing.{Placed}
 use Rattle.legends.specs.Rest.{Legend, legendIn, listedLines, restText, left, finishedAt, Piece}
 use Rattle.legends.proofs.Noting.{held-texts}
-use Rattle.legends.proofs.Positions.{Same, placed-same, bits-length, numbers-said}
+use Rattle.legends.proofs.Positions.{placed-same, bits-length, numbers-said}
 
 -- no text depends on the clauses
 module _ (p : Plan) (nodes bounds : List ℕ) (clauses : List ℤ) where

@@ -3,7 +3,7 @@ ghost use mathlib.Core.Path.{_≡_};
 ghost use mathlib.Core.List.{List};
 ghost use Prim.Native.Nat.{ℕ, _+_, _*_};
 ghost use lib.IntN.{ℤ};
-ghost use lib.ListN.{getD, length, take};
+ghost use lib.ListN.{length, take};
 ghost use Rattle.model.specs.Legend.{nodeBits, noteBit, outputBits};
 ghost use Rattle.party.specs.Read.{machineOf};
 ghost use Rattle.legends.specs.Placing.{bitsOver, childBits};

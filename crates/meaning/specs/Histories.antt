@@ -1,7 +1,7 @@
 -- DEMAND 3, its statement: any calls in any order, refused ones among them, and then what the answered bounds mean. Assumes nothing: these
 -- are definitions.
 use mathlib.Core.Path.{_≡_}
-use mathlib.Core.Bool.{Bool, true, false, cond, _&&_}
+use mathlib.Core.Bool.{Bool, true, false, cond}
 use mathlib.Core.Logic.{_↔_}
 use mathlib.Core.List.{List, [], _∷_, _++_}
 use Prim.Native.Nat.{ℕ, _+_, _≤_, _<_}
@@ -11,7 +11,7 @@ use lib.ListN.{take}
 use Rattle.model.specs.Limits.{inRange}
 use Rattle.model.specs.Logic.{litTrue, Term, weightedSum}
 use Rattle.model.specs.Words.{wordsTrue}
-use Rattle.model.specs.Replies.{Reply, number}
+use Rattle.model.specs.Replies.{number}
 use Rattle.model.specs.Machine.{Party, Machine}
 use Rattle.model.specs.Bounds.{Range}
 use Rattle.model.specs.Calls.{start, add, encode, encodeUp, encodeDown, encodeBoth, reserveCall, startOver, Enforced, nothing, literal, refused, enforceUpper, enforceLower}

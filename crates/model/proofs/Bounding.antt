@@ -5,7 +5,7 @@
 use mathlib.Core.Path.{_≡_, refl, sym, ap, _∙_}
 use mathlib.Core.Logic.{_⊎_, inl, inr}
 use mathlib.Core.Bool.{Bool, true, false, cond, _||_, or-assoc, or-comm}
-use mathlib.Core.List.{List, [], _∷_, _++_, append-nil, append-assoc}
+use mathlib.Core.List.{List, [], _∷_, _++_}
 use Prim.Native.Nat.{ℕ, zero, suc, _+_, _*_, _^_, _≤_, _<_, min}
 use native.Mathlib.Omega.{arith}
 use borrow.Author.Tests.{lt-ltb, le-ltb, ltb-true, ltb-false, eq-eqb, ne-eqb}
@@ -22,10 +22,10 @@ use Rattle.model.specs.Emit.{Em}
 use Rattle.model.specs.Compare.{outLits, comparator}
 use Rattle.model.specs.Machine.{Record, Machine, pending, recordAt, markedIn, dirPlace, findFrom, find}
 use Rattle.model.specs.Bounds.{valuesFrom, elem, missing, Work, recorded, compared, boundAll, emitted, stage, plus1, follow, Clauses}
-use Rattle.model.specs.Calls.{built, known, recordsAfter, work}
+use Rattle.model.specs.Calls.{built, known, work}
 use Rattle.model.proofs.Buffer.{sets-append, layAll-fits}
 use Rattle.model.proofs.Literals.{by-test}
-use Rattle.model.proofs.Emission.{em, onSink, emit-step, emit-map, emit-length, flat-append, Fits, put-fits, bump-rises, bump-plain}
+use Rattle.model.proofs.Emission.{em, onSink, emit-step, emit-length, flat-append, Fits, put-fits, bump-rises, bump-plain}
 use Rattle.model.proofs.Frame.{Counts, count, tally, tally-batch, tally-each, count-append, count-none, count-shape, count-same, comparator-shape, clause-length, inUse, emit-inUse}
 
 -- an encoding's state

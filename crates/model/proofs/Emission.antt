@@ -4,21 +4,21 @@
 use mathlib.Core.Path.{_≡_, refl, sym, ap, _∙_}
 use mathlib.Core.Logic.{_⊎_, inl, inr}
 use mathlib.Core.Bool.{Bool, true, false, cond, _&&_}
-use mathlib.Core.List.{List, [], _∷_, _++_, append-assoc, foldl, foldl-append}
-use Prim.Native.Nat.{ℕ, zero, suc, _+_, _/_, _%_, _≤_, _<_, min}
+use mathlib.Core.List.{List, [], _∷_, _++_, append-assoc}
+use Prim.Native.Nat.{ℕ, zero, suc, _+_, _/_, _%_, _≤_, _<_}
 use native.Mathlib.Omega.{arith}
 use borrow.Author.Tests.{lt-ltb}
-use lib.Dec.{eqb, ltb, leb}
+use lib.Dec.{eqb, ltb}
 use lib.IntN.{ℤ}
-use lib.ListN.{length, set, length-append, length-set}
+use lib.ListN.{length, set, length-set}
 use lib.Seq.{sets}
 use Rattle.model.specs.Limits.{mostFill}
 use Rattle.model.specs.Logic.{Lit}
-use Rattle.model.specs.Words.{clauseWords, flat, buffer, raised, lay, Sink, putBatch}
+use Rattle.model.specs.Words.{clauseWords, flat, buffer, raised, Sink, putBatch}
 use Rattle.model.specs.Signs.{Bit, sum, carry, Dir}
 use Rattle.model.specs.Nodes.{bump, Node, inTable, nodeAt, var, setVar, marked, setMark}
 use Rattle.model.specs.Emit.{Em, gateAt, childDir, children, takeVar, mark, write, node, byKind, emit, emitAll, reserveNode, reserve, reserveAll}
-use Rattle.model.proofs.Buffer.{raised-twice, lay-fits, lay-append}
+use Rattle.model.proofs.Buffer.{lay-fits}
 
 -- the emitter's state
 abbrev pub em : {S : Type 0} → List ℕ → ℕ → S → Em S

@@ -9,7 +9,7 @@ use Prim.Native.Nat.{ℕ, zero, suc, _+_, _*_, _/_, _%_, _^_, _≤_, _<_, min}
 use native.Mathlib.Omega.{arith}
 use borrow.Author.Tests.{lt-ltb, eqb-true}
 use lib.Dec.{eqb, ltb}
-use lib.ListN.{length, getD, take, drop, set, length-append, length-set, List·getD-append, take-append-drop}
+use lib.ListN.{length, getD, take, drop, length-append, length-set, List·getD-append, take-append-drop}
 use lib.Seq.{sets, length-sets, set-append-left, sets-eq, length-take-le, take-at}
 use Rattle.model.specs.Limits.{mostFill}
 use Rattle.model.specs.Logic.{Lit, neg}

@@ -1,6 +1,6 @@
 -- Document 01: the encoder's operations, each with its reply; "Every refusal leaves state, source and all lent memory unchanged."
 -- Refusals stand in 01's order, each need "worked out as if the later limits were endless". Assumes nothing: these are definitions.
-use mathlib.Core.Bool.{Bool, true, false, cond, _&&_, _||_}
+use mathlib.Core.Bool.{Bool, cond, _&&_, _||_}
 use mathlib.Core.List.{List, [], _∷_, _++_}
 use Prim.Native.Nat.{ℕ, zero, suc, _+_, _*_, _-_, _/_, min}
 use lib.Dec.{eqb, ltb, leb}
@@ -8,7 +8,7 @@ use lib.IntN.{ℤ}
 use lib.ListN.{length, getD, set, replicate}
 use lib.Seq.{sets}
 use Rattle.model.specs.Limits.{greatest, inRange, mostTerms, mostTotal, mostOutputs, mostNodes, mostBounds}
-use Rattle.model.specs.Logic.{Lit, pL, nL, variable, isLit, Term, total}
+use Rattle.model.specs.Logic.{Lit, pL, nL, variable, Term, total}
 use Rattle.model.specs.Words.{litOf, flat}
 use Rattle.model.specs.Replies.{Reply, Accepted, BadTerm, SumTooLarge, PendingFull, NotEncoded, Unsat, TooManyBounds, TooWide, NoNodes, NoVariables, NoRoom, Damaged, BadStart}
 use Rattle.model.specs.Signs.{Bit, sum, carry, Dir, iff, onlyif}

@@ -1,5 +1,5 @@
 -- Document 01, 'Emitting': the comparators. Assumes nothing: these are definitions.
-use mathlib.Core.Bool.{Bool, true, false, cond}
+use mathlib.Core.Bool.{cond}
 use mathlib.Core.List.{List, [], _∷_, _++_}
 use mathlib.Core.Option.{Option, none, some}
 use Prim.Native.Nat.{ℕ, zero, suc, _+_, _/_, _%_, _^_}

@@ -1,5 +1,5 @@
 -- Document 01, 'Implications and reifications': the implications. Assumes nothing: these are definitions.
-use mathlib.Core.Bool.{Bool, cond}
+use mathlib.Core.Bool.{cond}
 use mathlib.Core.List.{List, [], _∷_, _++_, map}
 use Prim.Native.Nat.{ℕ, suc, _+_}
 use lib.Dec.{ltb}

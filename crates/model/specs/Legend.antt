@@ -4,17 +4,17 @@ use mathlib.Core.Bool.{Bool, true, false, cond}
 use mathlib.Core.List.{List, [], _∷_, _++_}
 use Prim.Native.Nat.{ℕ, zero, suc, _+_, _*_, _-_, _/_, _%_}
 use lib.Dec.{eqb, ltb}
-use lib.IntN.{ℤ, pos}
+use lib.IntN.{pos}
 use lib.ListN.{length, getD, set, take, replicate}
 use Rattle.model.specs.Bytes.{bytes}
 use Rattle.model.specs.Logic.{Term, term}
 use Rattle.model.specs.Words.{word}
-use Rattle.model.specs.Signs.{Dir, iff, onlyif, Bit, sum, carry}
-use Rattle.model.specs.Machine.{Party, Machine, totalOf}
+use Rattle.model.specs.Signs.{Dir, iff, onlyif, sum, carry}
+use Rattle.model.specs.Machine.{Machine, totalOf}
 use Rattle.model.specs.Bounds.{run}
 use Rattle.model.specs.Calls.{Enforced, nothing, literal, refused, enforceUpper, enforceLower, Meant, input, bound, bitOf, dropped, droppedOrCallers, foreign, damaged, explain}
 use Rattle.model.specs.Text.{newline, linesOf, Line, firstLine, termLine, upperLine, lowerLine, noLine, lineOf, decimal, signedDecimal}
-use Rattle.model.specs.Program.{Asked, Plan, Outcome, going, stopped, outcomeOf, outcomeText}
+use Rattle.model.specs.Program.{Asked, Outcome, going, stopped, outcomeOf, outcomeText}
 
 -- the terms of the `t` lines, in order; where no line is refused, all of them were added
 abbrev pub termIn : Line → List Term

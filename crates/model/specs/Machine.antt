@@ -1,11 +1,10 @@
 -- Document 01, 'Numbers and lent tables': what an encoder holds and what it is lent. Assumes nothing: these are definitions.
 use mathlib.Core.Bool.{Bool, cond}
-use mathlib.Core.List.{List, [], _∷_, map}
+use mathlib.Core.List.{List, [], _∷_}
 use Prim.Native.Nat.{ℕ, zero, suc, _+_, _*_}
 use lib.Dec.{eqb}
 use lib.IntN.{ℤ}
-use lib.ListN.{length, getD, take, set, replicate}
-use lib.Seq.{sets}
+use lib.ListN.{getD, take, replicate}
 use Rattle.model.specs.Limits.{mostTerms, mostOutputs}
 use Rattle.model.specs.Logic.{Term}
 use Rattle.model.specs.Words.{connection}

@@ -1,17 +1,17 @@
 -- Document 01, 'Program': what is written is a function of the bytes read. Assumes nothing: these are definitions.
-use mathlib.Core.Bool.{Bool, cond}
+use mathlib.Core.Bool.{cond}
 use mathlib.Core.List.{List, [], _∷_, _++_}
 use Prim.Native.Nat.{ℕ, zero, suc, _+_, _-_, min, max}
 use lib.Dec.{eqb, ltb}
 use lib.IntN.{ℤ, pos, negsuc}
 use lib.ListN.{length, take, replicate}
-use Rattle.model.specs.Logic.{Lit, Term, term}
+use Rattle.model.specs.Logic.{Term, term}
 use Rattle.model.specs.Words.{word}
-use Rattle.model.specs.Replies.{Reply, number}
+use Rattle.model.specs.Replies.{number}
 use Rattle.model.specs.Signs.{Dir, iff, onlyif}
-use Rattle.model.specs.Machine.{Party, Machine, totalOf}
+use Rattle.model.specs.Machine.{Machine, totalOf}
 use Rattle.model.specs.Bounds.{Range, run}
-use Rattle.model.specs.Calls.{Started, start, Added, add, Replied, encodeUp, encodeDown, Enforced, nothing, literal, refused, enforceUpper, enforceLower}
+use Rattle.model.specs.Calls.{start, Added, add, Replied, encodeUp, encodeDown, Enforced, nothing, literal, refused, enforceUpper, enforceLower}
 use Rattle.model.specs.Text.{newline, space, linesOf, Line, firstLine, termLine, upperLine, lowerLine, noLine, lineOf, decimal, signedDecimal}
 
 -- a `u` or `l` line that was accepted: its direction, and "its range as cut at its call", by its first value and how many there are

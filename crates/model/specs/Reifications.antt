@@ -1,5 +1,5 @@
 -- Document 01, 'Implications and reifications': the reifications. Assumes nothing: these are definitions.
-use mathlib.Core.Bool.{Bool, true, false, cond, _&&_}
+use mathlib.Core.Bool.{Bool, true, cond, _&&_}
 use mathlib.Core.List.{List, [], _∷_, _++_, map}
 use Prim.Native.Nat.{ℕ, _+_, _*_, _-_}
 use lib.Dec.{leb, eqb}

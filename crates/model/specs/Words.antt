@@ -1,14 +1,14 @@
 -- Literals as words, the clause buffer, and the evaluator. ℤ occurs here and where a bound is read, nowhere else.
 -- Assumes nothing: these are definitions.
 use mathlib.Core.Bool.{Bool, true, false, cond, _&&_, _||_}
-use mathlib.Core.List.{List, [], _∷_, _++_, map}
+use mathlib.Core.List.{List, [], _∷_, _++_}
 use Prim.Native.Nat.{ℕ, zero, suc, _+_, _*_, _/_, _%_, min}
 use lib.Dec.{leb, eqb}
 use lib.IntN.{ℤ, pos, negsuc, negℤ}
 use lib.ListN.{length, getD}
 use lib.Seq.{sets}
 use Rattle.model.specs.Limits.{inRange, mostFill}
-use Rattle.model.specs.Logic.{Lit, pL, nL, neg, variable, isLit, litTrue}
+use Rattle.model.specs.Logic.{Lit, pL, nL, neg, isLit, litTrue}
 
 -- "A literal is a signed number: variable n or -n". A word has 31 bits for the variable, far more than any literal needs
 unfoldable pub word : Lit → ℤ

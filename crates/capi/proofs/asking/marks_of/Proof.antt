@@ -1,6 +1,4 @@
 -- By cases. Assumes nothing.
-use borrow.Author.Needs.{needs}
-use mathlib.Core.Path.{_≡_}
 use Rattle.capi.proofs.asking.marks_of.Statement.{statement}
 use Rattle.capi.proofs.asking.marks_of.Tie as tie
 

@@ -1,5 +1,4 @@
 -- By cases. Assumes nothing.
-use borrow.Author.Needs.{needs}
 use Rattle.capi.proofs.Implications.{one-first, one-second, one-third}
 use Rattle.capi.proofs.implying.one_of.Statement.{statement}
 use Rattle.capi.proofs.implying.one_of.Tie as tie

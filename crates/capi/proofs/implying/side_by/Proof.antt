@@ -1,5 +1,4 @@
 -- By cases. Assumes nothing.
-use borrow.Author.Needs.{needs}
 use Rattle.capi.proofs.Implications.{side-clause, side-cube}
 use Rattle.capi.proofs.implying.side_by.Statement.{statement}
 use Rattle.capi.proofs.implying.side_by.Tie as tie

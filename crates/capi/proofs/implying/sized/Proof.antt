@@ -1,5 +1,4 @@
 -- By cases. Assumes nothing.
-use borrow.Author.Needs.{needs}
 use Rattle.capi.proofs.Implications.{sized-one, sized-any}
 use Rattle.capi.proofs.implying.sized.Statement.{statement}
 use Rattle.capi.proofs.implying.sized.Tie as tie

@@ -1,5 +1,4 @@
 -- By cases. Assumes nothing.
-use borrow.Author.Needs.{needs}
 use Rattle.capi.proofs.Reifications.{asked-beyond, asked-kind}
 use Rattle.capi.proofs.reifying.asked.Statement.{statement}
 use Rattle.capi.proofs.reifying.asked.Tie as tie

@@ -1,5 +1,4 @@
 -- By cases. Assumes nothing.
-use borrow.Author.Needs.{needs}
 use Rattle.literal.proofs.Signed.{back}
 use Rattle.capi.proofs.Reifications.{bound-upper, bound-lower, bound-equality}
 use Rattle.capi.proofs.reifying.bound_by.Statement.{statement}

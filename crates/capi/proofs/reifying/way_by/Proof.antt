@@ -1,5 +1,4 @@
 -- By cases. Assumes nothing.
-use borrow.Author.Needs.{needs}
 use Rattle.capi.proofs.Reifications.{way-first, way-second}
 use Rattle.capi.proofs.reifying.way_by.Statement.{statement}
 use Rattle.capi.proofs.reifying.way_by.Tie as tie

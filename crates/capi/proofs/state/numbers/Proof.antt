@@ -1,6 +1,5 @@
 -- The 14 numbers, two words for each of 64 bits. Assumes nothing.
 use borrow.Author.Needs.{needs}
-use mathlib.Core.Path.{_≡_}
 use Rattle.capi.specs.Words.{numbersOf}
 use Rattle.capi.proofs.state.numbers.Statement.{statement}
 use Rattle.capi.proofs.state.numbers.Tie as tie

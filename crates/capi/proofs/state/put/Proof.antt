@@ -6,7 +6,6 @@ use native.Mathlib.Omega.{arith}
 use lib.ListN.{length, drop, length-set}
 use Rattle.capi.specs.Words.{laid}
 use Rattle.capi.proofs.Copying.{put-step, put-end}
-use lib.Seq.{sets}
 use Rattle.capi.proofs.state.put.Statement.{statement}
 use Rattle.capi.proofs.state.put.Tie as tie
 

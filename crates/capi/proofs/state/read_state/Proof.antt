@@ -1,8 +1,6 @@
 -- Each part is read where `stateAt` reads it. Assumes nothing.
 use borrow.Author.Needs.{needs}
 use Rattle.capi.proofs.Reading.{all-read}
-use mathlib.Core.Path.{_≡_}
-use Rattle.capi.specs.Words.{stateAt}
 use Rattle.capi.proofs.state.read_state.Statement.{statement}
 use Rattle.capi.proofs.state.read_state.Tie as tie
 

@@ -1,13 +1,12 @@
 -- The numbers, the terms and the outputs take all places. Assumes nothing.
 use borrow.Author.Needs.{needs}
-use mathlib.Core.Path.{_≡_, sym, _∙_, ap}
+use mathlib.Core.Path.{_≡_}
 use native.Mathlib.Omega.{arith}
 use lib.ListN.{length}
 use Rattle.capi.proofs.Reading.{all-stored}
 use Rattle.capi.proofs.Copying.{put-length}
 use mathlib.Core.Path.{_≡_}
-use Rattle.capi.specs.Words.{wordsOf}
-use Rattle.capi.proofs.Copying.{put-all, put-length}
+use Rattle.capi.proofs.Copying.{put-length}
 use Rattle.capi.proofs.state.store_state.Statement.{statement}
 use Rattle.capi.proofs.state.store_state.Tie as tie
 
