@@ -165,7 +165,7 @@ pub fn as_usize(x: i64) -> usize
 }
 
 // A number of 64 bits: -k stands for 2^64 - k.
-pub fn as_long(x: i64) -> usize {
+fn as_long(x: i64) -> usize {
     if x < 0 {
         return std::num::wrapping_sub_u64(0, magnitude(x)) as usize;
     }
@@ -251,7 +251,7 @@ pub fn end() {
     io::write_all(STDOUT_FILENO, b"\n");
 }
 
-// The numbers from a place on, each `step` places behind the one before, as words: as many as the list has room for.
+// The numbers from a place on, each `step` places behind the one before, as many as the list has room for. First as words.
 pub fn words_from(nums: &[i64], n: usize, from: usize, step: usize, words: &mut [i32]) {
     let mut place = from;
     let mut j = 0;
@@ -263,6 +263,7 @@ pub fn words_from(nums: &[i64], n: usize, from: usize, step: usize, words: &mut 
     }
 }
 
+// Without a sign.
 pub fn numbers_from(nums: &[i64], n: usize, from: usize, step: usize, numbers: &mut [u32]) {
     let mut place = from;
     let mut j = 0;
@@ -273,7 +274,7 @@ pub fn numbers_from(nums: &[i64], n: usize, from: usize, step: usize, numbers: &
     }
 }
 
-// The same as truth values: 0 is false.
+// As truth values: 0 is false.
 pub fn values_from(nums: &[i64], n: usize, from: usize, step: usize, values: &mut [bool]) {
     let mut place = from;
     let mut j = 0;
