@@ -39,20 +39,13 @@ fn tell_case(nums: &[i64], n: usize, i: usize) -> usize {
     n
 }
 
-fn fill_of(x: i64) -> usize {
-    if x < 0 {
-        return std::num::wrapping_sub_u64(0, try_io::magnitude(x)) as usize;
-    }
-    try_io::as_usize(x)
-}
-
 fn tell_part(nums: &[i64], n: usize, i: usize) -> usize {
-    let fill = fill_of(try_io::at(nums, n, try_io::later(i, 1)));
+    let fill = try_io::long(nums, n, i, 1);
     let negate = try_io::at(nums, n, try_io::later(i, 2)) != 0;
     let place = try_io::later(i, 4);
     let mut part = [0i32; 64];
     let size = try_io::at(nums, n, try_io::later(i, 3));
-    try_io::words_from(nums, n, place, try_io::as_usize(size), &mut part);
+    try_io::words_from(nums, n, place, 1, &mut part);
     let k = try_io::words_within(size, &part);
     let mut room = [MARK; 64];
     let len = try_io::words_within(try_io::at(nums, n, i), &room);
@@ -68,19 +61,19 @@ fn show_part(buf: &mut [i32], fill: usize, part: &[i32], negate: bool) {
 }
 
 fn tell_clause(nums: &[i64], n: usize, i: usize) -> usize {
-    let fill = fill_of(try_io::at(nums, n, try_io::later(i, 1)));
+    let fill = try_io::long(nums, n, i, 1);
     let negate_p = try_io::at(nums, n, try_io::later(i, 2)) != 0;
     let first = try_io::later(i, 4);
     let mut p = [0i32; 64];
     let size_p = try_io::at(nums, n, try_io::later(i, 3));
-    try_io::words_from(nums, n, first, try_io::as_usize(size_p), &mut p);
+    try_io::words_from(nums, n, first, 1, &mut p);
     let j = try_io::words_within(size_p, &p);
     let after = try_io::later(first, j);
     let negate_q = try_io::at(nums, n, after) != 0;
     let second = try_io::later(after, 2);
     let mut q = [0i32; 64];
     let size_q = try_io::at(nums, n, try_io::later(after, 1));
-    try_io::words_from(nums, n, second, try_io::as_usize(size_q), &mut q);
+    try_io::words_from(nums, n, second, 1, &mut q);
     let k = try_io::words_within(size_q, &q);
     let mut room = [MARK; 64];
     let len = try_io::words_within(try_io::at(nums, n, i), &room);
@@ -99,13 +92,13 @@ fn tell_values(nums: &[i64], n: usize, i: usize) -> usize {
     let first = try_io::later(i, 1);
     let mut words = [0i32; 64];
     let size = try_io::at(nums, n, i);
-    try_io::words_from(nums, n, first, try_io::as_usize(size), &mut words);
+    try_io::words_from(nums, n, first, 1, &mut words);
     let k = try_io::words_within(size, &words);
     let after = try_io::later(first, k);
     let second = try_io::later(after, 1);
     let mut values = [false; 64];
     let given = try_io::at(nums, n, after);
-    try_io::values_from(nums, n, second, try_io::as_usize(given), &mut values);
+    try_io::values_from(nums, n, second, 1, &mut values);
     let m = try_io::values_within(given, &values);
     try_io::say_bool(clauses::evaluate(&words[..k], &values[..m]));
     try_io::end();

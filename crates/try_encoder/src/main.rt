@@ -12,21 +12,20 @@
 // number; the weights and the words of the pending terms, then a sum over each array; the outputs; the node table, the bound table and
 // the buffer, each with its words in use, of which at most 400 are told, and a sum over all that is lent.
 ghost use mathlib.Core.Path.{_≡_};
-ghost use Prim.Native.Nat.{min};
 ghost use lib.ListN.{length};
-ghost use Rattle.try_io.specs.Narrow.{Within};
-use answers::Enforced;
-use answers::Meant;
 use encoder::Ask;
 use encoder::Encoded;
 use encoder::Range;
 use literal::Literal;
 use literal::Term;
 use party::Party;
-use party::Reply;
-use party::Reported;
-use party::Shared;
 use party::State;
+use try_io::least;
+use try_io::long;
+use try_io::part_of_numbers;
+use try_io::part_of_words;
+use try_io::short;
+use try_io::word;
 
 const MARK: u32 = 777;
 
@@ -75,9 +74,9 @@ fn tell_history(nums: &[i64], n: usize, i: usize) -> usize {
     let mut nodes = node_room();
     let mut bounds = bound_room();
     let mut clauses = clause_room();
-    let a = part_of(&nodes, long(nums, n, i, 1));
-    let b = part_of(&bounds, long(nums, n, i, 2));
-    let c = words_of(&clauses, long(nums, n, i, 3));
+    let a = part_of_numbers(&nodes, long(nums, n, i, 1));
+    let b = part_of_numbers(&bounds, long(nums, n, i, 2));
+    let c = part_of_words(&clauses, long(nums, n, i, 3));
     let first = short(nums, n, i, 0);
     let turns = long(nums, n, i, 4);
     let place = try_io::later(i, 5);
@@ -117,45 +116,6 @@ fn tell_turns(
     }
     say_all(nodes, bounds, clauses, r);
     r.place
-}
-
-// A length of at most a list's own: its first words can be lent.
-fn part_of(table: &[u32], count: usize) -> usize
-    ensures { λ r. ⌜ Within r (now (table .entry)) ⌝ }
-{
-    least(count, table.len())
-}
-
-fn words_of(words: &[i32], count: usize) -> usize
-    ensures { λ r. ⌜ Within r (now (words .entry)) ⌝ }
-{
-    least(count, words.len())
-}
-
-fn least(a: usize, b: usize) -> usize
-    ensures { λ r. ⌜ r ≡ min a b ⌝ }
-{
-    if a < b { a } else { b }
-}
-
-fn long_of(x: i64) -> usize {
-    if x < 0 {
-        return std::num::wrapping_sub_u64(0, try_io::magnitude(x)) as usize;
-    }
-    try_io::as_usize(x)
-}
-
-// The number k places on, in each width.
-fn short(nums: &[i64], n: usize, i: usize, k: usize) -> u32 {
-    try_io::as_u32(try_io::at(nums, n, try_io::later(i, k)))
-}
-
-fn long(nums: &[i64], n: usize, i: usize, k: usize) -> usize {
-    long_of(try_io::at(nums, n, try_io::later(i, k)))
-}
-
-fn word(nums: &[i64], n: usize, i: usize, k: usize) -> i32 {
-    try_io::as_i32(try_io::at(nums, n, try_io::later(i, k)))
 }
 
 fn range(nums: &[i64], n: usize, i: usize) -> Range {
@@ -224,21 +184,12 @@ fn ask_of(kind: u32, a: Range, b: Range) -> Ask {
 fn told(e: Encoded, place: usize) -> Run {
     let reply = e.reply;
     let state = e.state;
-    say_reply(reply);
+    try_state::say_reply(reply);
     Run {
         state,
         next: e.next,
         place,
     }
-}
-
-// A reply's number, and the place of a bad term.
-fn say_reply(r: Reply) {
-    try_io::say_number(r.number());
-    let Reply::BadTerm(place) = r else {
-        return;
-    };
-    try_io::say_count(place as u64);
 }
 
 // The turns that are lent tables: start over, and words set by the caller.
@@ -270,7 +221,7 @@ fn over(nodes: &mut [u32], bounds: &mut [u32], state: State, next: u32, place: u
     let a = encoder::start_over(state, nodes, bounds);
     let reply = a.reply;
     let after = a.state;
-    say_reply(reply);
+    try_state::say_reply(reply);
     Run {
         state: after,
         next,
@@ -315,7 +266,7 @@ fn turn_state(
         };
     }
     if kind == 13 {
-        let after = with(
+        let after = try_state::with(
             short(nums, n, i, 0),
             long(nums, n, i, 1),
             short(nums, n, i, 1),
@@ -340,7 +291,7 @@ fn add(nums: &[i64], n: usize, i: usize, state: State, next: u32) -> Run {
     let a = state.add(Term { weight, literal });
     let reply = a.reply;
     let after = a.state;
-    say_reply(reply);
+    try_state::say_reply(reply);
     Run {
         state: after,
         next,
@@ -348,192 +299,30 @@ fn add(nums: &[i64], n: usize, i: usize, state: State, next: u32) -> Run {
     }
 }
 
-fn with(which: u32, value: usize, small: u32, state: State) -> State {
-    let p = state.party;
-    let s = state.shared;
-    let party = numbered(which, small, counted(which, value, p));
-    let shared = lent(which, small, value, s);
-    State { party, shared }
-}
-
-// The fields of 64 bits.
-fn counted(which: u32, value: usize, p: Party) -> Party {
-    let mut new = p;
-    if which == 1 {
-        new.count = value;
-        return new;
-    }
-    if which == 3 {
-        new.len = value;
-        return new;
-    }
-    if which == 6 {
-        new.clauses = value;
-        return new;
-    }
-    new
-}
-
-// The fields of 32 bits.
-fn numbered(which: u32, value: u32, p: Party) -> Party {
-    let mut new = p;
-    if which == 0 {
-        new.first = value;
-        return new;
-    }
-    if which == 2 {
-        new.built = value;
-        return new;
-    }
-    if which == 4 {
-        new.nodes = value;
-        return new;
-    }
-    if which == 5 {
-        new.bounds = value;
-        return new;
-    }
-    if which == 7 {
-        new.drawn = value;
-        return new;
-    }
-    new
-}
-
-// What goes with the buffer and the source.
-fn lent(which: u32, small: u32, value: usize, s: Shared) -> Shared {
-    let mut new = s;
-    if which == 8 {
-        new.fill = value;
-        return new;
-    }
-    if which == 9 {
-        new.left = small;
-        return new;
-    }
-    new
-}
-
 // The turns that change nothing.
 fn ask(kind: u32, nums: &[i64], n: usize, i: usize, nodes: &[u32], bounds: &[u32], state: State) {
     let party = state.party;
     if kind == 8 {
-        say_bound(answers::enforce_ub(party, bounds, long(nums, n, i, 0) as u64));
+        try_state::say_bound(answers::enforce_ub(party, bounds, long(nums, n, i, 0) as u64));
         return;
     }
     if kind == 9 {
-        say_bound(answers::enforce_lb(party, bounds, long(nums, n, i, 0) as u64));
+        try_state::say_bound(answers::enforce_lb(party, bounds, long(nums, n, i, 0) as u64));
         return;
     }
     if kind == 10 {
         let l = word(nums, n, i, 0);
-        say_meaning(answers::explain(state, nodes, bounds, Literal { word: l }));
+        try_state::say_meaning(answers::explain(state, nodes, bounds, Literal { word: l }));
         return;
     }
-    say_report(party::report(state));
-}
-
-fn say_report(r: Reported) {
-    match r {
-        Reported::Told {
-            total,
-            clauses,
-            drawn,
-        } => {
-            try_io::say_count(0);
-            try_io::say_count(total);
-            try_io::say_count(clauses as u64);
-            try_io::say_number(drawn);
-            return;
-        }
-        Reported::Damaged => {
-            try_io::say_count(12);
-            return;
-        }
-    }
-}
-
-// The answer's number; then, of 0, whether there is a literal, and it.
-fn say_bound(r: Enforced) {
-    try_io::say_number(r.number());
-    match r {
-        Enforced::Nothing => {
-            try_io::say_count(0);
-            return;
-        }
-        Enforced::Literal(w) => {
-            try_io::say_count(1);
-            try_io::say_word(w);
-            return;
-        }
-        Enforced::Unsat => {
-            return;
-        }
-        Enforced::NotEncoded => {
-            return;
-        }
-        Enforced::Damaged => {
-            return;
-        }
-    }
-}
-
-// A number for each kind of meaning, 12 for damage, and then its values.
-fn say_meaning(m: Meant) {
-    match m {
-        Meant::Input => {
-            try_io::say_count(1);
-            return;
-        }
-        Meant::Bound {
-            value,
-            above,
-            only_above,
-        } => {
-            say_marks(value, above, only_above);
-            return;
-        }
-        Meant::Sum(node) => {
-            try_io::say_count(3);
-            try_io::say_number(node);
-            return;
-        }
-        Meant::Carry(node) => {
-            try_io::say_count(4);
-            try_io::say_number(node);
-            return;
-        }
-        Meant::Dropped => {
-            try_io::say_count(5);
-            return;
-        }
-        Meant::DroppedOrCallers => {
-            try_io::say_count(6);
-            return;
-        }
-        Meant::Foreign => {
-            try_io::say_count(7);
-            return;
-        }
-        Meant::Damaged => {
-            try_io::say_count(12);
-            return;
-        }
-    }
-}
-
-fn say_marks(value: u32, above: bool, only_above: bool) {
-    try_io::say_count(2);
-    try_io::say_number(value);
-    try_io::say_bool(above);
-    try_io::say_bool(only_above);
+    try_state::say_report(party::report(state));
 }
 
 // Every word, at a history's end.
 fn say_all(nodes: &[u32], bounds: &[u32], clauses: &[i32], r: Run) {
     let state = r.state;
     let party = state.party;
-    say_numbers_of(state);
+    try_state::say_numbers_of(state);
     try_io::say_number(r.next);
     try_io::end();
     say_pending(party);
@@ -547,41 +336,26 @@ fn say_all(nodes: &[u32], bounds: &[u32], clauses: &[i32], r: Run) {
     say_buffer(clauses, shared.fill);
 }
 
-fn say_numbers_of(state: State) {
-    let p = state.party;
-    let s = state.shared;
-    try_io::say_number(p.first);
-    try_io::say_count(p.count as u64);
-    try_io::say_number(p.built);
-    try_io::say_count(p.len as u64);
-    try_io::say_number(p.nodes);
-    try_io::say_number(p.bounds);
-    try_io::say_count(p.clauses as u64);
-    try_io::say_number(p.drawn);
-    try_io::say_count(s.fill as u64);
-    try_io::say_number(s.left);
-}
-
 fn say_pending(p: Party) {
     let weights = p.weights;
     let words = p.words;
-    let j = part_of(&weights, p.count);
+    let j = part_of_numbers(&weights, p.count);
     try_io::say_numbers(&weights[..j]);
-    let k = part_of(&words, p.count);
+    let k = part_of_numbers(&words, p.count);
     try_io::say_numbers(&words[..k]);
     try_io::say_count(sum_of(&weights));
     try_io::say_count(sum_of(&words));
 }
 
 fn say_table(table: &[u32], used: usize) {
-    let k = part_of(table, least(used, 400));
+    let k = part_of_numbers(table, least(used, 400));
     try_io::say_numbers(&table[..k]);
     try_io::say_count(sum_of(table));
     try_io::end();
 }
 
 fn say_buffer(words: &[i32], used: usize) {
-    let k = words_of(words, least(used, 400));
+    let k = part_of_words(words, least(used, 400));
     try_io::say_words(&words[..k]);
     try_io::say_count(sum_of_words(words));
     try_io::end();

@@ -4,8 +4,6 @@
 // list and the buffer have at most 64 words. A fill -k stands for 2^64 - k.
 // A line for each case: the answer's number, its value (the new fill, or the place of a bad term) where it has one, and every word of
 // the buffer, which held a mark at the start.
-use implications::Implied;
-use literal::Literal;
 
 const MARK: i32 = 777;
 
@@ -24,27 +22,20 @@ fn tell_cases(nums: &[i64], n: usize) {
     }
 }
 
-fn fill_of(x: i64) -> usize {
-    if x < 0 {
-        return std::num::wrapping_sub_u64(0, try_io::magnitude(x)) as usize;
-    }
-    try_io::as_usize(x)
-}
-
 // One case; the answer is the place of the next.
 fn tell_case(nums: &[i64], n: usize, i: usize) -> usize {
-    let kind = try_io::at(nums, n, i);
-    let fill = fill_of(try_io::at(nums, n, try_io::later(i, 2)));
+    let kind = try_io::as_usize(try_io::at(nums, n, i));
+    let fill = try_io::long(nums, n, i, 2);
     let first = try_io::later(i, 4);
     let mut a = [0i32; 64];
     let size_a = try_io::at(nums, n, try_io::later(i, 3));
-    try_io::words_from(nums, n, first, try_io::as_usize(size_a), &mut a);
+    try_io::words_from(nums, n, first, 1, &mut a);
     let j = try_io::words_within(size_a, &a);
     let after = try_io::later(first, j);
     let second = try_io::later(after, 1);
     let mut b = [0i32; 64];
     let size_b = try_io::at(nums, n, after);
-    try_io::words_from(nums, n, second, try_io::as_usize(size_b), &mut b);
+    try_io::words_from(nums, n, second, 1, &mut b);
     let k = try_io::words_within(size_b, &b);
     let mut room = [MARK; 64];
     let len = try_io::words_within(try_io::at(nums, n, try_io::later(i, 1)), &room);
@@ -52,66 +43,8 @@ fn tell_case(nums: &[i64], n: usize, i: usize) -> usize {
     try_io::later(second, k)
 }
 
-fn show(kind: i64, buf: &mut [i32], fill: usize, a: &[i32], b: &[i32]) {
-    let r = call(kind, buf, fill, a, b);
-    say_answer(r);
+fn show(kind: usize, buf: &mut [i32], fill: usize, a: &[i32], b: &[i32]) {
+    try_imply::tell(kind, buf, fill, a, b);
     try_io::say_words(buf);
     try_io::end();
-}
-
-fn say_answer(r: Implied) {
-    try_io::say_number(r.number());
-    match r {
-        Implied::Accepted(fill) => {
-            try_io::say_count(fill as u64);
-            return;
-        }
-        Implied::BadTerm(place) => {
-            try_io::say_count(place as u64);
-            return;
-        }
-        Implied::NoRoom => {
-            return;
-        }
-        Implied::Damaged => {
-            return;
-        }
-    }
-}
-
-// The literal of a list of one.
-fn only(words: &[i32]) -> Literal {
-    if words.len() == 0 {
-        return Literal { word: 0 };
-    }
-    let w = words[0];
-    Literal { word: w }
-}
-
-fn call(kind: i64, buf: &mut [i32], fill: usize, a: &[i32], b: &[i32]) -> Implied {
-    if kind == 1 {
-        return implications::lit_impl_lit(buf, fill, only(a), only(b));
-    }
-    if kind == 2 {
-        return implications::lit_impl_clause(buf, fill, only(a), b);
-    }
-    if kind == 3 {
-        return implications::cube_impl_lit(buf, fill, a, only(b));
-    }
-    if kind == 4 {
-        return implications::cube_impl_clause(buf, fill, a, b);
-    }
-    if kind == 5 {
-        return implications::lit_impl_cube(buf, fill, only(a), b);
-    }
-    if kind == 6 {
-        return implications::clause_impl_lit(buf, fill, a, only(b));
-    }
-    if kind == 7 {
-        return implications::clause_impl_clause(buf, fill, a, b);
-    }
-    if kind == 8 {
-        return implications::clause_impl_cube(buf, fill, a, b);
-    }
-    implications::cube_impl_cube(buf, fill, a, b)
 }

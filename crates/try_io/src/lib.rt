@@ -164,6 +164,27 @@ pub fn as_usize(x: i64) -> usize
     x as usize
 }
 
+// A number of 64 bits: -k stands for 2^64 - k.
+fn as_long(x: i64) -> usize {
+    if x < 0 {
+        return std::num::wrapping_sub_u64(0, magnitude(x)) as usize;
+    }
+    as_usize(x)
+}
+
+// The number k places on, in each width.
+pub fn short(nums: &[i64], n: usize, i: usize, k: usize) -> u32 {
+    as_u32(at(nums, n, later(i, k)))
+}
+
+pub fn long(nums: &[i64], n: usize, i: usize, k: usize) -> usize {
+    as_long(at(nums, n, later(i, k)))
+}
+
+pub fn word(nums: &[i64], n: usize, i: usize, k: usize) -> i32 {
+    as_i32(at(nums, n, later(i, k)))
+}
+
 // A number without its sign.
 pub fn magnitude(n: i64) -> u64
     ensures { λ r. ⌜ r ≡ natAbs n ⌝ }
@@ -230,33 +251,64 @@ pub fn end() {
     io::write_all(STDOUT_FILENO, b"\n");
 }
 
-// The numbers from a place on, as words: as many as are asked for, if the list is long enough.
-pub fn words_from(nums: &[i64], n: usize, from: usize, count: usize, words: &mut [i32]) {
-    let stop = least(count, words.len());
-    let mut i = 0;
-    while i < stop {
-        let x = at(nums, n, later(from, i));
-        let w = as_i32(x);
-        words[i] = w;
-        i += 1;
+// The numbers from a place on, each `step` places behind the one before, as many as the list has room for. First as words.
+pub fn words_from(nums: &[i64], n: usize, from: usize, step: usize, words: &mut [i32]) {
+    let mut place = from;
+    let mut j = 0;
+    while j < words.len() {
+        let w = as_i32(at(nums, n, place));
+        words[j] = w;
+        place = later(place, step);
+        j += 1;
     }
 }
 
-// The numbers from a place on, as truth values: 0 is false.
-pub fn values_from(nums: &[i64], n: usize, from: usize, count: usize, values: &mut [bool]) {
-    let stop = least(count, values.len());
-    let mut i = 0;
-    while i < stop {
-        values[i] = at(nums, n, later(from, i)) != 0;
-        i += 1;
+// Without a sign.
+pub fn numbers_from(nums: &[i64], n: usize, from: usize, step: usize, numbers: &mut [u32]) {
+    let mut place = from;
+    let mut j = 0;
+    while j < numbers.len() {
+        numbers[j] = as_u32(at(nums, n, place));
+        place = later(place, step);
+        j += 1;
+    }
+}
+
+// As truth values: 0 is false.
+pub fn values_from(nums: &[i64], n: usize, from: usize, step: usize, values: &mut [bool]) {
+    let mut place = from;
+    let mut j = 0;
+    while j < values.len() {
+        values[j] = at(nums, n, place) != 0;
+        place = later(place, step);
+        j += 1;
     }
 }
 
 // A length of at most a list's own: its first words can be lent.
+pub fn part_of_words(words: &[i32], count: usize) -> usize
+    ensures { λ r. ⌜ Within r (now (words .entry)) ⌝ }
+{
+    least(count, words.len())
+}
+
+pub fn part_of_numbers(numbers: &[u32], count: usize) -> usize
+    ensures { λ r. ⌜ Within r (now (numbers .entry)) ⌝ }
+{
+    least(count, numbers.len())
+}
+
+// The same of a number that is read: one below 0 gives no word.
 pub fn words_within(x: i64, words: &[i32]) -> usize
     ensures { λ r. ⌜ Within r (now (words .entry)) ⌝ }
 {
-    least(as_usize(x), words.len())
+    part_of_words(words, as_usize(x))
+}
+
+pub fn numbers_within(x: i64, numbers: &[u32]) -> usize
+    ensures { λ r. ⌜ Within r (now (numbers .entry)) ⌝ }
+{
+    part_of_numbers(numbers, as_usize(x))
 }
 
 pub fn values_within(x: i64, values: &[bool]) -> usize
@@ -265,7 +317,7 @@ pub fn values_within(x: i64, values: &[bool]) -> usize
     least(as_usize(x), values.len())
 }
 
-fn least(a: usize, b: usize) -> usize
+pub fn least(a: usize, b: usize) -> usize
     ensures { λ r. ⌜ r ≡ min a b ⌝ }
 {
     if a < b { a } else { b }

@@ -4,7 +4,6 @@
 // how many numbers are given, and those; where it is longer, they come again from the first on. A list has at most 160 numbers.
 // A line for each case: the answer's number, if it is accepted the order (1 upper, 2 lower), the count and the bound, and every word of
 // the two lists, which held marks at the start.
-ghost use Rattle.try_io.specs.Narrow.{Within};
 use literal::Literal;
 use reifications::Bound;
 use reifications::Order;
@@ -59,33 +58,26 @@ fn number_in(nums: &[i64], n: usize, l: List, j: usize) -> i64 {
     try_io::at(nums, n, try_io::later(l.place, j % k))
 }
 
-fn read_words(nums: &[i64], n: usize, l: List, words: &mut [i32]) {
+// A list's numbers, as many as there is room for.
+fn read_list(nums: &[i64], n: usize, l: List, list: &mut [i64]) {
     let mut j = 0;
-    while j < words.len() {
-        let w = try_io::as_i32(number_in(nums, n, l, j));
-        words[j] = w;
+    while j < list.len() {
+        let x = number_in(nums, n, l, j);
+        list[j] = x;
         j += 1;
     }
+}
+
+fn read_words(nums: &[i64], n: usize, l: List, words: &mut [i32]) {
+    let mut list = [0i64; 160];
+    read_list(nums, n, l, &mut list);
+    try_io::words_from(&list, 160, 0, 1, words);
 }
 
 fn read_weights(nums: &[i64], n: usize, l: List, weights: &mut [u32]) {
-    let mut j = 0;
-    while j < weights.len() {
-        let w = try_io::as_u32(number_in(nums, n, l, j));
-        weights[j] = w;
-        j += 1;
-    }
-}
-
-// A length of at most a list's own.
-fn weights_within(x: i64, weights: &[u32]) -> usize
-    ensures { λ r. ⌜ Within r (now (weights .entry)) ⌝ }
-{
-    let k = try_io::as_usize(x);
-    if k < weights.len() {
-        return k;
-    }
-    weights.len()
+    let mut list = [0i64; 160];
+    read_list(nums, n, l, &mut list);
+    try_io::numbers_from(&list, 160, 0, 1, weights);
 }
 
 fn bound_of(kind: i64, bound: i32) -> Bound {
@@ -131,13 +123,13 @@ fn tell_pb(
     let second = list_at(nums, n, behind(first));
     let mut tw = [0u32; 160];
     read_weights(nums, n, first, &mut tw);
-    let j = weights_within(first.size, &tw);
+    let j = try_io::numbers_within(first.size, &tw);
     let mut tl = [0i32; 160];
     read_words(nums, n, second, &mut tl);
     let k = try_io::words_within(second.size, &tl);
     let mut weights = [MARK_WEIGHT; 160];
     let mut literals = [MARK_LITERAL; 160];
-    let p = weights_within(room_w, &weights);
+    let p = try_io::numbers_within(room_w, &weights);
     let q = try_io::words_within(room_l, &literals);
     show_pb(
         kind,
@@ -185,7 +177,7 @@ fn tell_card(
     let k = try_io::words_within(only.size, &tl);
     let mut weights = [MARK_WEIGHT; 160];
     let mut literals = [MARK_LITERAL; 160];
-    let p = weights_within(room_w, &weights);
+    let p = try_io::numbers_within(room_w, &weights);
     let q = try_io::words_within(room_l, &literals);
     show_card(
         kind,

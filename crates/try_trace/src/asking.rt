@@ -1,9 +1,8 @@
-// What is told of a state: a bound's literal, the report, a dump.
+// What is told of a state: a bound's literal, a dump.
 use crate::hashing::hash_numbers;
 use crate::hashing::hash_words;
 use answers::Enforced;
 use party::Party;
-use party::Reported;
 use party::Shared;
 use party::State;
 
@@ -14,26 +13,6 @@ pub fn say_bound(r: Enforced) {
         return;
     };
     try_io::say_word(w);
-}
-
-pub fn say_report(r: Reported) {
-    match r {
-        Reported::Told {
-            total,
-            clauses,
-            drawn,
-        } => {
-            try_io::say_count(0);
-            try_io::say_count(total);
-            try_io::say_count(clauses as u64);
-            try_io::say_number(drawn);
-            return;
-        }
-        Reported::Damaged => {
-            try_io::say_count(12);
-            return;
-        }
-    }
 }
 
 // The state's numbers, the source's next, and a hash over every word that is lent and one over the outputs.

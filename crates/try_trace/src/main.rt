@@ -15,7 +15,6 @@ mod asking;
 mod hashing;
 mod implying;
 mod playing;
-mod reading;
 mod reifying;
 
 ghost use mathlib.Core.Path.{_≡_};
@@ -61,9 +60,9 @@ fn tell_history(nums: &[i64], n: usize, i: usize) -> usize {
     let mut nodes = table_room();
     let mut bounds = table_room();
     let mut buffer = buffer_room();
-    let a = reading::part_of(&nodes, reading::long(nums, n, i, 1));
-    let b = reading::part_of(&bounds, reading::long(nums, n, i, 2));
-    let c = reading::words_of(&buffer, reading::long(nums, n, i, 3));
+    let a = try_io::part_of_numbers(&nodes, try_io::long(nums, n, i, 1));
+    let b = try_io::part_of_numbers(&bounds, try_io::long(nums, n, i, 2));
+    let c = try_io::part_of_words(&buffer, try_io::long(nums, n, i, 3));
     try_io::say_count(0);
     try_io::end();
     play(

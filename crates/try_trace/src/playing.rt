@@ -1,16 +1,17 @@
 // The calls of a history, from its tables to the next, on the encoder.
 use crate::asking;
 use crate::implying;
-use crate::reading::long;
-use crate::reading::short;
-use crate::reading::term;
 use crate::reifying;
 use encoder::Ask;
 use encoder::Encoded;
 use encoder::Range;
+use literal::Term;
 use party::Added;
 use party::Reply;
 use party::State;
+use try_io::long;
+use try_io::short;
+use try_io::word;
 
 // The state and the source's next number, and the place of the next call.
 struct Run {
@@ -108,7 +109,7 @@ fn ask_of(kind: u32, r: Range) -> Ask {
 fn told(e: Encoded, place: usize) -> Run {
     let reply = e.reply;
     let state = e.state;
-    say_reply(reply);
+    try_state::say_reply(reply);
     Run {
         state,
         next: e.next,
@@ -116,20 +117,11 @@ fn told(e: Encoded, place: usize) -> Run {
     }
 }
 
-// A reply's number, and the place of a bad term.
-fn say_reply(r: Reply) {
-    try_io::say_number(r.number());
-    let Reply::BadTerm(place) = r else {
-        return;
-    };
-    try_io::say_count(place as u64);
-}
-
 fn over(nodes: &mut [u32], bounds: &mut [u32], state: State, next: u32, place: usize) -> Run {
     let a = encoder::start_over(state, nodes, bounds);
     let reply = a.reply;
     let after = a.state;
-    say_reply(reply);
+    try_state::say_reply(reply);
     Run {
         state: after,
         next,
@@ -173,7 +165,7 @@ fn start(first: u32, state: State, next: u32, place: usize) -> Run {
     let s = party::start(first);
     let reply = s.reply;
     let new = s.state;
-    say_reply(reply);
+    try_state::say_reply(reply);
     let Reply::Accepted = reply else {
         return Run { state, next, place };
     };
@@ -190,12 +182,19 @@ fn add(nums: &[i64], n: usize, i: usize, state: State, next: u32) -> Run {
     let a = add_list(nums, n, first, count, state);
     let reply = a.reply;
     let after = a.state;
-    say_reply(reply);
+    try_state::say_reply(reply);
     Run {
         state: after,
         next,
         place: try_io::later(try_io::later(first, count), count),
     }
+}
+
+// The weight and the literal at a place.
+fn term(nums: &[i64], n: usize, i: usize) -> Term {
+    let weight = short(nums, n, i, 0);
+    let literal = word(nums, n, i, 1);
+    Term { weight, literal }
 }
 
 // The list as a whole, term by term.
@@ -230,7 +229,7 @@ fn call_nothing(
         return try_io::later(i, 1);
     }
     if kind == 11 {
-        asking::say_report(party::report(state));
+        try_state::say_report(party::report(state));
         return i;
     }
     if kind == 14 {

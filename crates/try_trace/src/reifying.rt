@@ -1,30 +1,30 @@
 // A reification: which way, the constraint's kind and bound, the literal, the length of the lists for the result, and the terms.
-use crate::reading::literal;
-use crate::reading::long;
-use crate::reading::part_of;
-use crate::reading::short;
-use crate::reading::word;
-use crate::reading::words_of;
+use literal::Literal;
 use reifications::Bound;
 use reifications::Order;
 use reifications::Reified;
 use reifications::Way;
+use try_io::long;
+use try_io::part_of_numbers;
+use try_io::part_of_words;
+use try_io::short;
+use try_io::word;
 
 // The answer is the place of the next call.
 pub fn reification(nums: &[i64], n: usize, i: usize) -> usize {
     let count = long(nums, n, i, 5);
     let first = try_io::later(i, 6);
     let mut tw = [0u32; 160];
-    weights_from(nums, n, first, &mut tw);
-    let j = part_of(&tw, count);
+    try_io::numbers_from(nums, n, first, 2, &mut tw);
+    let j = part_of_numbers(&tw, count);
     let mut tl = [0i32; 160];
-    literals_from(nums, n, first, &mut tl);
-    let k = words_of(&tl, count);
+    try_io::words_from(nums, n, try_io::later(first, 1), 2, &mut tl);
+    let k = part_of_words(&tl, count);
     let mut weights = [0u32; 160];
     let mut literals = [0i32; 160];
     let room = long(nums, n, i, 4);
-    let p = part_of(&weights, room);
-    let q = words_of(&literals, room);
+    let p = part_of_numbers(&weights, room);
+    let q = part_of_words(&literals, room);
     show_reification(
         nums,
         n,
@@ -35,28 +35,6 @@ pub fn reification(nums: &[i64], n: usize, i: usize) -> usize {
         &mut literals[..q],
     );
     try_io::later(try_io::later(first, count), count)
-}
-
-// The weights and the literals of terms, which take turns.
-fn weights_from(nums: &[i64], n: usize, first: usize, weights: &mut [u32]) {
-    let mut place = first;
-    let mut j = 0;
-    while j < weights.len() {
-        weights[j] = short(nums, n, place, 0);
-        place = try_io::later(place, 2);
-        j += 1;
-    }
-}
-
-fn literals_from(nums: &[i64], n: usize, first: usize, literals: &mut [i32]) {
-    let mut place = first;
-    let mut j = 0;
-    while j < literals.len() {
-        let w = word(nums, n, place, 1);
-        literals[j] = w;
-        place = try_io::later(place, 2);
-        j += 1;
-    }
 }
 
 fn show_reification(
@@ -70,7 +48,9 @@ fn show_reification(
 ) {
     let way = way_of(short(nums, n, i, 0));
     let bound = bound_of(short(nums, n, i, 1), word(nums, n, i, 2));
-    let lit = literal(nums, n, i, 3);
+    let lit = Literal {
+        word: word(nums, n, i, 3),
+    };
     let r = reifications::reify_lists(way, lit, bound, tw, tl, weights, literals);
     say_reified(r, weights, literals);
 }
@@ -105,8 +85,8 @@ fn say_reified(r: Reified, weights: &[u32], literals: &[i32]) {
     if let Reified::Accepted(order, count, bound) = r {
         try_io::say_number(order_number(order));
         try_io::say_number(bound);
-        let j = part_of(weights, count);
-        let k = words_of(literals, count);
+        let j = part_of_numbers(weights, count);
+        let k = part_of_words(literals, count);
         say_terms(&weights[..j], &literals[..k]);
         return;
     }

@@ -1,26 +1,20 @@
 -- `values_from` is safe and ends. Assumes nothing.
 use borrow.Author.Needs.{needs}
 use native.Mathlib.Omega.{arith}
-use Prim.Native.Nat.{_≤_, _-_}
 use mathlib.Core.Path.{_≡_}
+use Prim.Native.Nat.{_-_}
 use lib.ListN.{length, length-set}
 use Rattle.try_io.proofs.values_from.Statement.{statement}
 use Rattle.try_io.proofs.values_from.Tie as tie
 
 abbrev Inv-loop : tie.InvT-loop
-Inv-loop nums n from count values₀ stop i₀ values i = (stop ≤ length values₀) × (length values ≡ length values₀)
+Inv-loop nums n from step values₀ place₀ j₀ values place j = length values ≡ length values₀
 
 abbrev μ-loop : tie.MeasureT-loop
-μ-loop nums n from count values₀ stop i₀ values i = stop - i
-
-least-requires : tie.Need-least-requires Inv-loop μ-loop
-least-requires c κs = search needs
+μ-loop nums n from step values₀ place₀ j₀ values place j = length values - j
 
 loop-holds : tie.Need-loop-holds Inv-loop μ-loop
-loop-holds c = (omega arith, search needs)
-
-later-requires : tie.Need-later-requires Inv-loop μ-loop
-later-requires c κs = search needs
+loop-holds c = search needs
 
 at-requires : tie.Need-at-requires Inv-loop μ-loop
 at-requires c κs = search needs
@@ -28,14 +22,17 @@ at-requires c κs = search needs
 slice-write-values : tie.Need-slice-write-values Inv-loop μ-loop
 slice-write-values c = search needs
 
-add-i : tie.Need-add-i Inv-loop μ-loop
-add-i c = search needs
+later-requires : tie.Need-later-requires Inv-loop μ-loop
+later-requires c κs = search needs
+
+add-j : tie.Need-add-j Inv-loop μ-loop
+add-j c = search needs
 
 loop-less : tie.Need-loop-less Inv-loop μ-loop
-loop-less c = search needs
+loop-less c = simp length-set (omega arith)
 
 loop-again : tie.Need-loop-again Inv-loop μ-loop
-loop-again c = (search needs, simp length-set (c .before .before .before .loop .inv .1))
+loop-again c = simp length-set (c .before .before .before .loop .inv)
 
 same-length : tie.Need-same-length Inv-loop μ-loop
 same-length c = search needs
@@ -49,12 +46,11 @@ values-from-spec =
     (tie.spec
     Inv-loop
     μ-loop
-    least-requires
     loop-holds
-    later-requires
     at-requires
     slice-write-values
-    add-i
+    later-requires
+    add-j
     loop-less
     loop-again
     same-length

@@ -1,26 +1,20 @@
 -- `words_from` is safe and ends. Assumes nothing.
 use borrow.Author.Needs.{needs}
 use native.Mathlib.Omega.{arith}
-use Prim.Native.Nat.{_≤_, _-_}
 use mathlib.Core.Path.{_≡_}
+use Prim.Native.Nat.{_-_}
 use lib.ListN.{length, length-set}
 use Rattle.try_io.proofs.words_from.Statement.{statement}
 use Rattle.try_io.proofs.words_from.Tie as tie
 
 abbrev Inv-loop : tie.InvT-loop
-Inv-loop nums n from count words₀ stop i₀ words i = (stop ≤ length words₀) × (length words ≡ length words₀)
+Inv-loop nums n from step words₀ place₀ j₀ words place j = length words ≡ length words₀
 
 abbrev μ-loop : tie.MeasureT-loop
-μ-loop nums n from count words₀ stop i₀ words i = stop - i
-
-least-requires : tie.Need-least-requires Inv-loop μ-loop
-least-requires c κs = search needs
+μ-loop nums n from step words₀ place₀ j₀ words place j = length words - j
 
 loop-holds : tie.Need-loop-holds Inv-loop μ-loop
-loop-holds c = (omega arith, search needs)
-
-later-requires : tie.Need-later-requires Inv-loop μ-loop
-later-requires c κs = search needs
+loop-holds c = search needs
 
 at-requires : tie.Need-at-requires Inv-loop μ-loop
 at-requires c κs = search needs
@@ -34,14 +28,17 @@ mul-w c = search needs
 slice-set-from-w : tie.Need-slice-set-from-w Inv-loop μ-loop
 slice-set-from-w c = search needs
 
-add-i : tie.Need-add-i Inv-loop μ-loop
-add-i c = search needs
+later-requires : tie.Need-later-requires Inv-loop μ-loop
+later-requires c κs = search needs
+
+add-j : tie.Need-add-j Inv-loop μ-loop
+add-j c = search needs
 
 loop-less : tie.Need-loop-less Inv-loop μ-loop
-loop-less c = search needs
+loop-less c = simp length-set (omega arith)
 
 loop-again : tie.Need-loop-again Inv-loop μ-loop
-loop-again c = (search needs, simp length-set (c .before .before .before .before .loop .inv .1))
+loop-again c = simp length-set (c .before .before .before .before .loop .inv)
 
 same-length : tie.Need-same-length Inv-loop μ-loop
 same-length c = search needs
@@ -55,14 +52,13 @@ words-from-spec =
     (tie.spec
     Inv-loop
     μ-loop
-    least-requires
     loop-holds
-    later-requires
     at-requires
     as-i32-requires
     mul-w
     slice-set-from-w
-    add-i
+    later-requires
+    add-j
     loop-less
     loop-again
     same-length
