@@ -7,10 +7,10 @@ ghost use lib.ListN.{length, take};
 ghost use Rattle.model.specs.Legend.{nodeBits, noteBit, outputBits};
 ghost use Rattle.party.specs.Read.{machineOf};
 ghost use Rattle.legends.specs.Placing.{bitsOver, childBits};
-use crate::tables::clear;
 use crate::tables::keep;
 use crate::tables::word_at;
 use party::State;
+use plan::room::clear;
 use printing::tokens::last_before;
 
 // What a connection word at a bit position says of the node that it names: a sum stands there, a carry in the next.

@@ -1,6 +1,6 @@
 // A word of a table, read or stored; past the table's end 0 is read and nothing stored.
 ghost use mathlib.Core.Path.{_≡_};
-ghost use lib.ListN.{getD, length, replicate, set};
+ghost use lib.ListN.{getD, set};
 
 pub(crate) fn word_at(table: &[u32], i: usize) -> u32
     ensures { λ r. ⌜ r ≡ getD (now (table .entry)) i 0 ⌝ }
@@ -16,16 +16,5 @@ pub(crate) fn keep(table: &mut [u32], i: usize, word: u32)
 {
     if i < table.len() {
         table[i] = word;
-    }
-}
-
-// A table all 0.
-pub(crate) fn clear(table: &mut [u32])
-    ensures { λ _. ⌜ now (table .exit) ≡ replicate (length (now (table .entry))) 0 ⌝ }
-{
-    let mut i = 0;
-    while i < table.len() {
-        table[i] = 0;
-        i += 1;
     }
 }

@@ -17,6 +17,7 @@ ghost use Rattle.plan.specs.Reading.{after, takeLine, progressOf, Room};
 ghost use Rattle.plan.specs.Noting.{noted, askedAs, litBy};
 use crate::Plan;
 use crate::Stage;
+use crate::room::clear;
 use encoder::Ask;
 use encoder::Range;
 use literal::GREATEST;
@@ -28,18 +29,7 @@ use text::Line;
 // The most `u` and `l` lines.
 const MOST_ASKED: usize = 256;
 
-// A table all 0.
-fn clear(table: &mut [u32])
-    ensures { λ _. ⌜ now (table .exit) ≡ replicate (length (now (table .entry))) 0 ⌝ }
-{
-    let mut i = 0;
-    while i < table.len() {
-        table[i] = 0;
-        i += 1;
-    }
-}
-
-// The same of the clause buffer.
+// The clause buffer all 0.
 fn clear_words(words: &mut [i32])
     ensures { λ _. ⌜ now (words .exit) ≡ replicate (length (now (words .entry))) (pos 0) ⌝ }
 {

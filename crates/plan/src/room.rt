@@ -1,7 +1,7 @@
 // "Room: 1,024 nodes, 1,024 bounds, 12,288 words, 256 `u` and `l` lines": the tables of a program, in its own memory. The contracts
-// give only the lengths: the first line of a plan clears what they hold.
+// give only the lengths: the first line of a plan clears what they hold (`clear`).
 ghost use mathlib.Core.Path.{_≡_};
-ghost use lib.ListN.{length};
+ghost use lib.ListN.{length, replicate};
 
 pub fn nodes() -> [u32; 8192]
     ensures { λ r. ⌜ 8192 ≡ length r ⌝ }
@@ -25,4 +25,15 @@ pub fn asked() -> [u32; 768]
     ensures { λ r. ⌜ 768 ≡ length r ⌝ }
 {
     [0; 768]
+}
+
+// A table all 0.
+pub fn clear(table: &mut [u32])
+    ensures { λ _. ⌜ now (table .exit) ≡ replicate (length (now (table .entry))) 0 ⌝ }
+{
+    let mut i = 0;
+    while i < table.len() {
+        table[i] = 0;
+        i += 1;
+    }
 }

@@ -4,8 +4,8 @@ use Prim.Native.Nat.{_-_}
 use native.Mathlib.Omega.{arith}
 use lib.ListN.{length}
 use Rattle.plan.proofs.Clearing.{Cleared, cleared-none, cleared-more, cleared-all}
-use Rattle.plan.proofs.lines.clear.Statement.{statement}
-use Rattle.plan.proofs.lines.clear.Tie as tie
+use Rattle.plan.proofs.room.clear.Statement.{statement}
+use Rattle.plan.proofs.room.clear.Tie as tie
 
 abbrev Inv-loop : tie.InvT-loop
 Inv-loop table₀ i₀ table i = Cleared 0 table₀ table i
