@@ -1,6 +1,6 @@
 -- The emitter's laws. One induction over emitting and reserving (`Step`), and what it gives: what becomes of the clauses may be
--- mapped, an empty buffer counts as a real one, clauses that fit stand as one batch, two ways to count on agree below a limit, no
--- number falls, and the table keeps its length. Assumes nothing.
+-- mapped, two ways to count on agree below a limit, no number falls, and the table keeps its length; and that clauses that fit stand as
+-- one batch. Assumes nothing.
 use mathlib.Core.Path.{_≡_, refl, sym, ap, _∙_}
 use mathlib.Core.Logic.{_⊎_, inl, inr}
 use mathlib.Core.Bool.{Bool, true, false, cond, _&&_}
