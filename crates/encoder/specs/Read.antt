@@ -1,18 +1,22 @@
 -- The declared answers, read as the model's. Assumes nothing: these are definitions.
 use mathlib.Core.Path.{_≡_}
-use mathlib.Core.Bool.{Bool}
+use mathlib.Core.Bool.{Bool, false}
 use mathlib.Core.List.{List}
 use Prim.Native.Nat.{ℕ, zero, suc, _+_, _*_, _/_, _≤_, min}
 use lib.Dec.{ltb}
 use lib.IntN.{ℤ}
 use lib.ListN.{length, set}
 use Rattle.model.specs.Limits.{mostBounds}
-use Rattle.model.specs.Machine.{Machine}
+use Rattle.model.specs.Buckets.{present, positionsAfter}
+use Rattle.model.specs.Machine.{Machine, pending, totalOf}
 use Rattle.model.specs.Bounds as bounds
-use Rattle.model.specs.Calls.{Replied, replied, recordsAfter, encode, encodeUp, encodeDown, encodeBoth}
+use Rattle.model.specs.Calls.{Replied, replied, recordsAfter, tooWide, noNodes, encode, encodeUp, encodeDown, encodeBoth}
 use Rattle.party.specs.Read.{machineOf, replyOf}
 use Rattle.party.specs.declared.State.{State}
-use Rattle.stages.specs.Ask.{valuesOf}
+use Rattle.buckets.specs.declared.Needs.{Needs}
+use Rattle.staging.specs.Built.{nodesOf}
+use Rattle.staging.specs.Sound.{Sound}
+use Rattle.stages.specs.Ask.{valuesOf, Ready}
 use Rattle.stages.specs.declared.Cut.{Cut}
 use Rattle.encoder.specs.declared.Range.{Range}
 use Rattle.encoder.specs.declared.Ask.{Ask}
@@ -83,3 +87,15 @@ pub record Counts (bs : List ℕ) (old : ℕ) (up down : Cut) : Type 0 where
 -- 7: "the records after the call exceed the table"
 unfoldable pub tooMany : List ℕ → List ℕ → Machine → Bool
 tooMany ups downs m = ltb (min mostBounds (length (m .bounds) / 3)) (recordsAfter ups downs m)
+
+-- where the refusals before 10 do not stand: what the two after them and the run lean on
+pub record Roomy (s : State) (up down : Cut) (total : ℕ) (need : Needs) (m : Machine) : Type 0 where
+  pub sound : Sound m
+  pub sum : total ≡ totalOf (m .party)
+  pub ready : Ready s (m .nodes) (m .bounds) up down
+  pub many : need .nodes ≡ nodesOf (m .party)
+  pub few : need .nodes ≤ 4096
+  pub wide : need .positions ≡ positionsAfter (pending (m .party)) (present (m .party .outputs)) (m .party .nodes)
+  pub records : tooMany (valuesOf up) (valuesOf down) m ≡ false
+  pub outputs : tooWide m ≡ false
+  pub table : noNodes m ≡ false

@@ -14,7 +14,8 @@ ghost use Rattle.model.specs.Machine.{totalOf};
 ghost use Rattle.party.specs.Read.{machineOf, partyOf};
 ghost use Rattle.staging.specs.Sound.{Sound};
 ghost use Rattle.stages.specs.Ask.{valuesOf};
-ghost use Rattle.encoder.specs.Read.{answerOf, encodedOf, rangeOf, upRange, downRange, Cuts, Few, Counts, tooMany, asked, cleared};
+ghost use Rattle.encoder.specs.Read.{answerOf, encodedOf, rangeOf, upRange, downRange, Cuts, Few, Counts, Roomy, tooMany, asked, cleared};
+use buckets::Needs;
 use party::Reply;
 use party::Shared;
 use party::State;
@@ -281,7 +282,56 @@ fn too_many(state: State, bounds: &[u32], up: Cut, down: Cut) -> bool
     room < old as usize + without_record(bounds, old, up, down)
 }
 
-// Where something is asked: the refusals 7 to 11, then the run.
+// Where a build has room: the refusals 10 and 11, then the run.
+fn encode_built(
+    state: State,
+    next: u32,
+    nodes: &mut [u32],
+    bounds: &mut [u32],
+    clauses: &mut [i32],
+    total: u64,
+    up: Cut,
+    down: Cut,
+    need: Needs,
+) -> Encoded
+    requires { ⌜ Roomy state up down total need (machineOf state next (now nodes) (now bounds) (now clauses)) ⌝ }
+    ensures { λ r. ⌜ encodedOf r (now (nodes .exit)) (now (bounds .exit)) (now (clauses .exit)) ≡ encodeValues (valuesOf up) (valuesOf down) (machineOf state next (now (nodes .entry)) (now (bounds .entry)) (now (clauses .entry))) ⌝ }
+{
+    let short = stages::encode_short(
+        state,
+        next,
+        nodes,
+        bounds,
+        clauses.len(),
+        up,
+        down,
+        need.nodes,
+        need.positions,
+    );
+    if short == 10 {
+        return Encoded {
+            reply: Reply::NoVariables,
+            state,
+            next,
+        };
+    }
+    if short == 11 {
+        return Encoded {
+            reply: Reply::NoRoom,
+            state,
+            next,
+        };
+    }
+    let r = stages::perform(state, next, nodes, bounds, clauses, total, up, down);
+    let after = r.state;
+    Encoded {
+        reply: Reply::Accepted,
+        state: after,
+        next: r.next,
+    }
+}
+
+// Where something is asked: the refusals 7 to 9, then the rest.
 fn encode_asked(
     state: State,
     next: u32,
@@ -320,38 +370,7 @@ fn encode_asked(
             next,
         };
     }
-    let short = stages::encode_short(
-        state,
-        next,
-        nodes,
-        bounds,
-        clauses.len(),
-        up,
-        down,
-        need.nodes,
-        need.positions,
-    );
-    if short == 10 {
-        return Encoded {
-            reply: Reply::NoVariables,
-            state,
-            next,
-        };
-    }
-    if short == 11 {
-        return Encoded {
-            reply: Reply::NoRoom,
-            state,
-            next,
-        };
-    }
-    let r = stages::perform(state, next, nodes, bounds, clauses, total, up, down);
-    let after = r.state;
-    Encoded {
-        reply: Reply::Accepted,
-        state: after,
-        next: r.next,
-    }
+    encode_built(state, next, nodes, bounds, clauses, total, up, down, need)
 }
 
 // Encode, with the source's number by value. An empty range is accepted and does nothing: pending stays pending.
