@@ -1,12 +1,12 @@
 // Carries a plan out: the terms go to the two lent lists, from place 0 on, where they fit both.
 ghost use mathlib.Core.Path.{_≡_};
-ghost use mathlib.Core.Bool.{cond};
-ghost use mathlib.Core.List.{_++_};
+ghost use mathlib.Core.Bool.{false, cond};
+ghost use mathlib.Core.List.{[], _++_};
 ghost use Prim.Native.Nat.{_≤_, _+_};
 ghost use lib.Dec.{eqb};
 ghost use lib.ListN.{length};
 ghost use lib.Seq.{sets};
-ghost use Rattle.model.specs.Reifications.{reifiedTo};
+ghost use Rattle.model.specs.Reifications.{lower, reifiedTo};
 ghost use Rattle.clauses.specs.Parts.{turned, turnedWord};
 ghost use Rattle.reifications.specs.Read.{answerOf, orderOf};
 ghost use Rattle.reifications.specs.Plans.{added, carriedOut, writtenLists};
@@ -96,6 +96,26 @@ fn write_terms(
     Reified::Accepted(order, n, bound)
 }
 
+// A literal that has to be true: its one term, at least 1.
+fn write_unit(word: i32, weights: &mut [u32], literals: &mut [i32]) -> Reified
+    ensures { λ r. ⌜ reifiedTo (answerOf r) (now (weights .exit)) (now (literals .exit)) ≡ writtenLists lower false 1 (turnedWord false word) 1 [] [] (now (weights .entry)) (now (literals .entry)) ⌝ }
+{
+    let no_weights = [0u32; 0];
+    let no_literals = [0i32; 0];
+    write_terms(
+        Order::Lower,
+        false,
+        1,
+        word,
+        false,
+        1,
+        &no_weights,
+        &no_literals,
+        weights,
+        literals,
+    )
+}
+
 pub(crate) fn carry_out(
     plan: Plan,
     lit: Literal,
@@ -121,18 +141,7 @@ pub(crate) fn carry_out(
             return Reified::Accepted(Order::Lower, 0, 0);
         }
         Plan::Unit => {
-            return write_terms(
-                Order::Lower,
-                false,
-                1,
-                word,
-                false,
-                1,
-                &term_weights[..0],
-                &term_literals[..0],
-                weights,
-                literals,
-            );
+            return write_unit(word, weights, literals);
         }
         Plan::Terms {
             order,

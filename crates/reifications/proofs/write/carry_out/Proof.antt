@@ -40,14 +40,8 @@ returns-4 c = rw (c .enum-told4 .given .1)
 enum-told-5 : tie.Need-enum-told-5
 enum-told-5 c = search needs
 
-slice-aggregate-write-terms : tie.Need-slice-aggregate-write-terms
-slice-aggregate-write-terms c = search needs
-
-slice-aggregate-write-terms-2 : tie.Need-slice-aggregate-write-terms-2
-slice-aggregate-write-terms-2 c = search needs
-
-write-terms-requires : tie.Need-write-terms-requires
-write-terms-requires c κs = search needs
+write-unit-requires : tie.Need-write-unit-requires
+write-unit-requires c κs = search needs
 
 same-length : tie.Need-same-length
 same-length c = search needs
@@ -62,14 +56,14 @@ returns-5 : tie.Need-returns-5
 unfolding answerOf orderOf carriedOut
 returns-5 c =
     let w = c .before .before .before in
-    let e = w .before .before .before .before .before in
-    unit-out _ _ _ _ _ _ _ _ (e .enum-told5 .given .1) (back (told (e .before .before))) (w .write-terms .ensures)
+    let e = w .before .before .before in
+    unit-out _ _ _ _ _ _ _ _ (e .enum-told5 .given .1) (back (told (e .before .before))) (w .write-unit .ensures)
 
 enum-known-plan : tie.Need-enum-known-plan
 enum-known-plan c = search needs
 
-write-terms-requires-2 : tie.Need-write-terms-requires-2
-write-terms-requires-2 c κs = search needs
+write-terms-requires : tie.Need-write-terms-requires
+write-terms-requires c κs = search needs
 
 same-length-3 : tie.Need-same-length-3
 same-length-3 c = search needs
@@ -82,7 +76,7 @@ unfolding answerOf orderOf carriedOut
 returns-6 c =
     let w = c .before .before .before in
     let p = w .before .before .before .before in
-    terms-out _ _ _ _ _ _ _ _ _ _ _ _ _ (p .plan .given .1) (back (told (p .before .before))) (w .write-terms2 .ensures)
+    terms-out _ _ _ _ _ _ _ _ _ _ _ _ _ (p .plan .given .1) (back (told (p .before .before))) (w .write-terms .ensures)
 
 pub carry-out-spec : {M : Type 1} → statement M
 carry-out-spec =
@@ -97,14 +91,12 @@ carry-out-spec =
     enum-told-4
     returns-4
     enum-told-5
-    slice-aggregate-write-terms
-    slice-aggregate-write-terms-2
-    write-terms-requires
+    write-unit-requires
     same-length
     same-length-2
     returns-5
     enum-known-plan
-    write-terms-requires-2
+    write-terms-requires
     same-length-3
     same-length-4
     returns-6)
