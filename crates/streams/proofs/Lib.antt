@@ -1,0 +1,3 @@
+-- Laws of reading in blocks and of writing in pieces.
+pub mod BlockLaws
+pub mod PieceLaws

@@ -1,0 +1,2 @@
+-- What the contracts cite: calls at the blocks of a text.
+pub mod Blocks
