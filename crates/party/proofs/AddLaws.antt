@@ -1,6 +1,6 @@
 -- The model's `add`, refusal by refusal. Assumes nothing.
-use Rattle.std.proofs.Common.{◌≡◌, ◌<◌, ◌≤◌, ◌∙◌, sym, ℕ, suc, ◌+◌, ◌^◌, Bool, true, false, cond, List, [], ◌∷◌, ◌++◌, refl, ap, length, map, take, drop, get_or, arith, zero-add, Some, None, ltb, leb}
-use Rattle.std.specs.Prelude.{◌&&◌, eqb, position}
+use Rattle.std.proofs.Common.{◌≡◌, ◌<◌, ◌≤◌, ◌∙◌, sym, ℕ, suc, ◌+◌, ◌-◌, ◌^◌, Bool, true, false, cond, List, [], ◌∷◌, ◌++◌, refl, ap, length, map, take, drop, get_or, arith, zero-add, Some, None, ltb, leb}
+use Rattle.std.specs.Prelude.{◌&&◌, position}
 use Rattle.std.specs.List.{position_or_len}
 use Rattle.std.proofs.lemmas.Bool.Decides.{nat_tests}
 use Rattle.std.proofs.lemmas.Grind.{common_steps}
@@ -17,7 +17,9 @@ use Rattle.model.specs.Damage.{party_damaged}
 use Rattle.model.specs.Replies.{accepted, bad_term, sum_too_large, pending_full, damaged}
 use Rattle.model.specs.Calls.{add, added, is_bad_term, first_bad_term, with_pending}
 use Rattle.literal.specs.declared.Term.{Term}
-use Rattle.party.specs.Laying.{added_each, added_word, added_words, IsLaid, pending_term, term_of, total_weight}
+use Rattle.party.specs.Laying.{added_each, IsLaid, pending_term, term_of, total_weight}
+use Rattle.party.proofs.EachLaws.{at_most_each}
+use Rattle.party.proofs.LayingLaws.{length-pending_of}
 
 module _ (ts : List logic.Term) (p : Party) where
   pub add_damaged : party_damaged p ≡ true → add ts p ≡ added damaged p
@@ -111,22 +113,6 @@ add_all-map F (t ∷ ts) ps h g =
     ap (λ w. add_all (map term_of ts) (add_to (record { weight = t.weight; word = w }) ps)) (good_word F t h k.0) ∙ add_all-map F ts (add_to (pending_term t) ps) h k.1
 
 -- ---- the words of the pending terms
-words_by : (q : Bool) (t u : Pending) (us : List Pending) → eqb u.word t.word ≡ q → words_of (add_to t us) ≡ added_word t.word (words_of us) → words_of (add_to t (u ∷ us)) ≡ added_word t.word (words_of (u ∷ us))
-words_by true t u us e ih = rw e refl
-words_by false t u us e ih = rw e (ap (λ xs. u.word ∷ xs) ih)
-
-words_of-add_to : (t : Pending) (ps : List Pending) → words_of (add_to t ps) ≡ added_word t.word (words_of ps)
-words_of-add_to t [] = refl
-words_of-add_to t (u ∷ us) = words_by (eqb u.word t.word) t u us refl (words_of-add_to t us)
-
-words_of-added_each : (ts : List Term) (ps : List Pending) → words_of (added_each ts ps) ≡ added_words ts (words_of ps)
-words_of-added_each [] ps = refl
-words_of-added_each (t ∷ ts) ps = words_of-added_each ts (add_to (pending_term t) ps) ∙ ap (added_words ts) (words_of-add_to (pending_term t) ps)
-
-length-words_of : (ps : List Pending) → length (words_of ps) ≡ length ps
-length-words_of [] = refl
-length-words_of (u ∷ us) = ap suc (length-words_of us)
-
 words_back : (ws xs : List ℕ) → length ws ≡ length xs → words_of (pending_of ws xs) ≡ xs
 unfolding pending_of
 words_back [] [] e = refl
@@ -140,10 +126,6 @@ weights_back [] [] e = refl
 weights_back [] (x ∷ xs) e = absurd (omega arith)
 weights_back (w ∷ ws) [] e = absurd (omega arith)
 weights_back (w ∷ ws) (x ∷ xs) e = ap (λ l. w ∷ l) (weights_back ws xs (omega arith))
-
-pub count_by_words : (ts : List Term) (ws xs : List ℕ) → length ws ≡ length xs → length (added_each ts (pending_of ws xs)) ≡ length (added_words ts xs)
-count_by_words ts ws xs e =
-    sym (length-words_of (added_each ts (pending_of ws xs))) ∙ ap length (words_of-added_each ts (pending_of ws xs) ∙ ap (added_words ts) (words_back ws xs e))
 
 -- ---- the two arrays afterwards
 whole : (xs ys zs : List ℕ) (n : ℕ) → n ≤ length ys → n ≤ length xs → take n ys ≡ zs → drop n ys ≡ drop n xs → ys ≡ sets xs 0 zs
@@ -168,13 +150,10 @@ pub total_of-weighed : (p : Party) → total_of p ≡ p.structure.built + weighe
 unfolding total_of pending
 total_of-weighed p = refl
 
-pub room_by_words : (p : Party) (ts : List Term) → p.terms.count ≤ length p.terms.weights → p.terms.count ≤ length p.terms.words → p.given.first ≤ greatest → length (map term_of ts) ≤ first_bad_term p.given.first (map term_of ts)
-    → (add_all (map term_of ts) (pending p) ≡ added_each ts (pending_of (take p.terms.count p.terms.weights) (take p.terms.count p.terms.words)))
-    × (length (added_each ts (pending_of (take p.terms.count p.terms.weights) (take p.terms.count p.terms.words))) ≡ length (added_words ts (take p.terms.count p.terms.words)))
+pub all_by_each : (p : Party) (ts : List Term) → p.given.first ≤ greatest → length (map term_of ts) ≤ first_bad_term p.given.first (map term_of ts)
+    → add_all (map term_of ts) (pending p) ≡ added_each ts (pending_of (take p.terms.count p.terms.weights) (take p.terms.count p.terms.words))
 unfolding pending
-room_by_words p ts a b h g =
-    let same : length (take p.terms.count p.terms.weights) ≡ length (take p.terms.count p.terms.words) = grind (arith, common_steps) in
-    (add_all-map p.given.first ts (pending_of (take p.terms.count p.terms.weights) (take p.terms.count p.terms.words)) h g, count_by_words ts (take p.terms.count p.terms.weights) (take p.terms.count p.terms.words) same)
+all_by_each p ts h g = add_all-map p.given.first ts (pending_of (take p.terms.count p.terms.weights) (take p.terms.count p.terms.words)) h g
 
 -- how the tests of the code read, in one place: what is known of a state that is not damaged, whose terms are good
 pub record Ready (p : Party) (ts : List Term) : Type 0 where
@@ -202,9 +181,14 @@ module _ (p : Party) (ts : List Term) (r : Ready p ts) where
   same_total : total_of p + logic.total (map term_of ts) ≡ total_of p + total_weight ts
   same_total = omega (arith, total-map ts)
 
-  room : (add_all (map term_of ts) (pending p) ≡ added_each ts (pending_of (take p.terms.count p.terms.weights) (take p.terms.count p.terms.words)))
-      × (length (added_each ts (pending_of (take p.terms.count p.terms.weights) (take p.terms.count p.terms.words))) ≡ length (added_words ts (take p.terms.count p.terms.words)))
-  room = room_by_words p ts (omega (arith, r.counted, r.weights_long)) (omega (arith, r.counted, r.words_long)) r.known r.good
+  each : add_all (map term_of ts) (pending p) ≡ added_each ts (pending_of (take p.terms.count p.terms.weights) (take p.terms.count p.terms.words))
+  each = all_by_each p ts r.known r.good
+
+  pub surely : length ts ≤ 128 - p.terms.count → length (added_each ts (pending_of (take p.terms.count p.terms.weights) (take p.terms.count p.terms.words))) ≤ 128
+  surely h =
+      let long : length (pending_of (take p.terms.count p.terms.weights) (take p.terms.count p.terms.words)) ≡ p.terms.count =
+      length-pending_of p.terms.weights p.terms.words p.terms.count (omega (arith, r.counted, r.weights_long)) (omega (arith, r.counted, r.words_long)) in
+      omega (arith, h, long, r.counted, at_most_each ts (pending_of (take p.terms.count p.terms.weights) (take p.terms.count p.terms.words)))
 
   pub too_large : false ≡ leb (total_of p + total_weight ts) most_total → add (map term_of ts) p ≡ added sum_too_large p
   too_large e = let h : most_total < total_of p + total_weight ts = grind (arith, nat_tests) in add_large (map term_of ts) p r.sound r.good (omega (arith, same_total))
@@ -213,24 +197,17 @@ module _ (p : Party) (ts : List Term) (r : Ready p ts) where
     in_limit : total_of p + logic.total (map term_of ts) ≤ most_total
     in_limit = let h : total_of p + total_weight ts ≤ most_total = grind (arith, nat_tests) in omega (arith, same_total)
 
-    pub too_many : false ≡ leb (length (added_words ts (take p.terms.count p.terms.words))) 128 → add (map term_of ts) p ≡ added pending_full p
-    too_many e =
-        let h : 128 < length (added_words ts (take p.terms.count p.terms.words)) = grind (arith, nat_tests) in
-        add_full (map term_of ts) p r.sound r.good in_limit (rw (room.0, room.1) h)
+    pub too_many : 128 < length (added_each ts (pending_of (take p.terms.count p.terms.weights) (take p.terms.count p.terms.words))) → add (map term_of ts) p ≡ added pending_full p
+    too_many h = add_full (map term_of ts) p r.sound r.good in_limit (rw each h)
 
     pub weights_fit : weighed (pending_of (take p.terms.count p.terms.weights) (take p.terms.count p.terms.words)) + total_weight ts < 2 ^ 32
     weights_fit = omega (arith, in_limit, total-map ts, total_of-weighed p)
 
-    module _ (few : true ≡ leb (length (added_words ts (take p.terms.count p.terms.words))) 128) where
-      pub terms_fit : length (added_each ts (pending_of (take p.terms.count p.terms.weights) (take p.terms.count p.terms.words))) ≤ 128
-      terms_fit = let h : length (added_words ts (take p.terms.count p.terms.words)) ≤ 128 = grind (arith, nat_tests) in omega (arith, room.1)
-
-      pub all_added : (W' X' : List ℕ) (n : ℕ) → length W' ≡ 128 → length X' ≡ 128 → IsLaid p.terms.weights p.terms.words W' X' n (added_each ts (pending_of (take p.terms.count p.terms.weights) (take p.terms.count p.terms.words)))
-          → add (map term_of ts) p ≡ added accepted (record p { terms = record { weights = W'; words = X'; count = n } })
-      unfolding with_pending
-      all_added W' X' n a b l =
-          let m : n ≤ 128 = omega (arith, l.counted, terms_fit) in
-          let w : W' ≡ sets p.terms.weights 0 (weights_of (add_all (map term_of ts) (pending p))) = rw room.0 (weights_whole p.terms.weights p.terms.words W' X' _ n (omega (arith, r.weights_long)) (omega arith) (omega arith) l.laid l.weights_behind) in
-          let x : X' ≡ sets p.terms.words 0 (words_of (add_all (map term_of ts) (pending p))) = rw room.0 (words_whole p.terms.words W' X' _ n (omega (arith, r.words_long)) (omega arith) (omega arith) l.laid l.words_behind) in
-          let k : n ≡ length (add_all (map term_of ts) (pending p)) = rw room.0 l.counted in
-          rw (w, x, k) (add_accepted (map term_of ts) p r.sound r.good in_limit (omega (arith, k, m)))
+    pub all_added : (W' X' : List ℕ) (n : ℕ) → length W' ≡ 128 → length X' ≡ 128 → n ≤ 128 → IsLaid p.terms.weights p.terms.words W' X' n (added_each ts (pending_of (take p.terms.count p.terms.weights) (take p.terms.count p.terms.words)))
+        → add (map term_of ts) p ≡ added accepted (record p { terms = record { weights = W'; words = X'; count = n } })
+    unfolding with_pending
+    all_added W' X' n a b m l =
+        let w : W' ≡ sets p.terms.weights 0 (weights_of (add_all (map term_of ts) (pending p))) = rw each (weights_whole p.terms.weights p.terms.words W' X' _ n (omega (arith, r.weights_long)) (omega arith) (omega arith) l.laid l.weights_behind) in
+        let x : X' ≡ sets p.terms.words 0 (words_of (add_all (map term_of ts) (pending p))) = rw each (words_whole p.terms.words W' X' _ n (omega (arith, r.words_long)) (omega arith) (omega arith) l.laid l.words_behind) in
+        let k : n ≡ length (add_all (map term_of ts) (pending p)) = rw each l.counted in
+        rw (w, x, k) (add_accepted (map term_of ts) p r.sound r.good in_limit (omega (arith, k, m)))

@@ -1,12 +1,10 @@
 -- Terms laid one after another. Assumes nothing.
-use Rattle.std.proofs.Common.{◌≡◌, ◌≢◌, ◌<◌, ◌≤◌, ◌∙◌, sym, ℕ, zero, suc, ◌+◌, Bool, true, false, List, [], ◌∷◌, refl, ap, length, take, drop, set, get_or, arith, add-one, drop-cons, pos}
+use Rattle.std.proofs.Common.{◌≡◌, ◌<◌, ◌≤◌, ◌∙◌, sym, ℕ, zero, suc, ◌+◌, Bool, true, false, List, [], ◌∷◌, refl, ap, length, drop, get_or, arith, add-one, drop-cons, pos}
 use Rattle.std.specs.Prelude.{eqb}
 use Rattle.model.specs.Buckets.{Pending}
 use Rattle.model.specs.Machine.{add_to, weighed}
-use Rattle.model.specs.Words.{connection_of}
 use Rattle.literal.specs.declared.Term.{Term}
-use Rattle.party.specs.Laying.{added_each, added_word, added_words, pending_term, total_weight}
-use Rattle.party.proofs.LayingLaws.{differ}
+use Rattle.party.specs.Laying.{added_each, pending_term, total_weight}
 
 abbrev pub no_term : Term
 no_term = record { weight = 0; literal = pos 0 }
@@ -18,9 +16,6 @@ module _ (ts : List Term) (i : ℕ) (t : Term) (h : i < length ts) (is : t ≡ g
 
   pub turn_weight : total_weight (drop i ts) ≡ t.weight + total_weight (drop (i + 1) ts)
   turn_weight = rw (add-one i, drop-cons ts i no_term h, is) refl
-
-  pub turn_words : (xs : List ℕ) → added_words (drop i ts) xs ≡ added_words (drop (i + 1) ts) (added_word (connection_of t.literal) xs)
-  turn_words xs = rw (add-one i, drop-cons ts i no_term h, is) refl
 
 weighed_by : (q : Bool) (t u : Pending) (us : List Pending) → eqb u.word t.word ≡ q → weighed (add_to t us) ≡ weighed us + t.weight → weighed (add_to t (u ∷ us)) ≡ weighed (u ∷ us) + t.weight
 unfolding weighed
@@ -44,6 +39,18 @@ pub longer_each : (ts : List Term) (ps : List Pending) → length ps ≤ length 
 longer_each [] ps = omega arith
 longer_each (t ∷ ts) ps = omega (arith, longer (pending_term t) ps, longer_each ts (add_to (pending_term t) ps))
 
+most_by : (q : Bool) (t u : Pending) (us : List Pending) → eqb u.word t.word ≡ q → length (add_to t us) ≤ length us + 1 → length (add_to t (u ∷ us)) ≤ length (u ∷ us) + 1
+most_by true t u us e ih = rw e (omega arith)
+most_by false t u us e ih = rw e (omega arith)
+
+at_most : (t : Pending) (ps : List Pending) → length (add_to t ps) ≤ length ps + 1
+at_most t [] = omega arith
+at_most t (u ∷ us) = most_by (eqb u.word t.word) t u us refl (at_most t us)
+
+pub at_most_each : (ts : List Term) (ps : List Pending) → length (added_each ts ps) ≤ length ps + length ts
+at_most_each [] ps = omega arith
+at_most_each (t ∷ ts) ps = omega (arith, at_most (pending_term t) ps, at_most_each ts (add_to (pending_term t) ps))
+
 nil_drop : {A : Type 0} (m : ℕ) → drop {A = A} m [] ≡ []
 nil_drop zero = refl
 nil_drop (suc m) = refl
@@ -56,54 +63,3 @@ drop_further [] [] (suc m) (suc n) h e = refl
 drop_further [] (y ∷ ys) (suc m) (suc n) h e = sym (nil_drop n) ∙ drop_further [] ys m n (omega arith) (nil_drop m ∙ e)
 drop_further (x ∷ xs) [] (suc m) (suc n) h e = drop_further xs [] m n (omega arith) (e ∙ sym (nil_drop m)) ∙ nil_drop n
 drop_further (x ∷ xs) (y ∷ ys) (suc m) (suc n) h e = drop_further xs ys m n (omega arith) e
-
--- ---- the words alone
-word_by : (q : Bool) (x y : ℕ) (ys : List ℕ) → eqb y x ≡ q → length (added_word x ys) ≤ length ys + 1 → length (added_word x (y ∷ ys)) ≤ length (y ∷ ys) + 1
-word_by true x y ys e ih = rw e (omega arith)
-word_by false x y ys e ih = rw e (omega arith)
-
-pub word_at_most : (x : ℕ) (xs : List ℕ) → length (added_word x xs) ≤ length xs + 1
-word_at_most x [] = omega arith
-word_at_most x (y ∷ ys) = word_by (eqb y x) x y ys refl (word_at_most x ys)
-
-pub words_at_most : (ts : List Term) (xs : List ℕ) → length (added_words ts xs) ≤ length xs + length ts
-words_at_most [] xs = omega arith
-words_at_most (t ∷ ts) xs = omega (arith, word_at_most (connection_of t.literal) xs, words_at_most ts (added_word (connection_of t.literal) xs))
-
-least_by : (q : Bool) (x y : ℕ) (ys : List ℕ) → eqb y x ≡ q → length ys ≤ length (added_word x ys) → length (y ∷ ys) ≤ length (added_word x (y ∷ ys))
-least_by true x y ys e ih = rw e (omega arith)
-least_by false x y ys e ih = rw e (omega arith)
-
-pub word_at_least : (x : ℕ) (xs : List ℕ) → length xs ≤ length (added_word x xs)
-word_at_least x [] = omega arith
-word_at_least x (y ∷ ys) = least_by (eqb y x) x y ys refl (word_at_least x ys)
-
-pub words_at_least : (ts : List Term) (xs : List ℕ) → length xs ≤ length (added_words ts xs)
-words_at_least [] xs = omega arith
-words_at_least (t ∷ ts) xs = omega (arith, word_at_least (connection_of t.literal) xs, words_at_least ts (added_word (connection_of t.literal) xs))
-
-pub new_word : (X : List ℕ) (n x : ℕ) → n < length X → ((j : ℕ) → j < length (take n X) → get_or (take n X) j 0 ≢ x) → added_word x (take n X) ≡ take (n + 1) (set X n x)
-new_word X n x h f = rw (add-one n) (new_at X n x h f)
-  where
-    new_at : (X : List ℕ) (n x : ℕ) → n < length X → ((j : ℕ) → j < length (take n X) → get_or (take n X) j 0 ≢ x) → added_word x (take n X) ≡ take (suc n) (set X n x)
-    new_at [] n x h f = absurd (omega arith)
-    new_at (y ∷ X) zero x h f = refl
-    new_at (y ∷ X) (suc n) x h f =
-        let t : eqb y x ≡ false = differ y x (f 0 (omega arith)) in
-        rw t (ap (λ xs. y ∷ xs) (new_at X n x (omega arith) (λ j l. f (suc j) (omega arith))))
-
-pub new_length : (X : List ℕ) (n x : ℕ) → n ≤ length X → ((j : ℕ) → j < length (take n X) → get_or (take n X) j 0 ≢ x) → length (added_word x (take n X)) ≡ n + 1
-new_length X zero x h f = omega arith
-new_length [] (suc n) x h f = absurd (omega arith)
-new_length (y ∷ X) (suc n) x h f =
-    let t : eqb y x ≡ false = differ y x (f 0 (omega arith)) in
-    rw t (omega (arith, new_length X n x (omega arith) (λ j l. f (suc j) (omega arith))))
-
-known_by : (q : Bool) (x y : ℕ) (ys : List ℕ) → eqb y x ≡ q → (q ≡ false → added_word x ys ≡ ys) → added_word x (y ∷ ys) ≡ y ∷ ys
-known_by true x y ys e ih = rw e refl
-known_by false x y ys e ih = rw e (ap (λ xs. y ∷ xs) (ih refl))
-
-pub known_word : (xs : List ℕ) (k x : ℕ) → k < length xs → get_or xs k 0 ≡ x → added_word x xs ≡ xs
-known_word [] k x h e = absurd (omega arith)
-known_word (y ∷ ys) zero x h e = let t : eqb y x ≡ true = grind (arith, e) in rw t refl
-known_word (y ∷ ys) (suc k) x h e = known_by (eqb y x) x y ys refl (λ _. known_word ys k x (omega arith) e)

@@ -6,7 +6,7 @@ ghost use Rattle.model.specs.Calls.{is_bad_term};
 ghost use Rattle.party.specs.Laying.{term_of};
 
 use crate::check::{any_bad, any_bad_output};
-use crate::pending::{MOST_SUM, has_room, keeps_total, lay_all};
+use crate::pending::{MOST_SUM, keeps_total, lay_all};
 use crate::terms::TermList;
 use literal::{GREATEST, Literal, MOST_BOUNDS, MOST_NODES, MOST_TERMS, OUTPUTS, Refusal, Term};
 use std::marker::Model;
@@ -56,7 +56,7 @@ pub struct Tally {
 
 /// Clauses see the model's party. It is lent and changed in place; a copy is asked for by `clone`.
 #[repr(C)]
-#[derive(Clone, Debug, Drop)]
+#[derive(Clone, Copy, Debug)]
 pub struct Encoder {
     given: Given,
     terms: Terms,
@@ -99,7 +99,7 @@ pub struct Report {
 }
 
 /// A reply beside the encoder after the call: the encoder hands itself back after each term, refused or not.
-#[derive(Debug, Drop)]
+#[derive(Clone, Copy, Debug)]
 pub struct Added {
     pub reply: Result<(), Refusal>,
     pub encoder: Encoder,
@@ -365,15 +365,22 @@ impl Encoder {
         if !keeps_total(total, terms) {
             return Err(Refusal::SumTooLarge);
         }
-        if !has_room(&self.terms.words, self.terms.count, terms) {
-            return Err(Refusal::PendingFull);
+        let count = self.terms.count;
+        if terms.count() <= MOST_TERMS - count {
+            let Some(used) = lay_all(&mut self.terms.weights, &mut self.terms.words, count, terms)
+            else {
+                return Err(Refusal::PendingFull);
+            };
+            self.terms.count = used;
+            return Ok(());
         }
-        self.terms.count = lay_all(
-            &mut self.terms.weights,
-            &mut self.terms.words,
-            self.terms.count,
-            terms,
-        );
+        // Not all need have room: a refusal leaves the lists, so a copy is laid.
+        let mut laid = self.terms;
+        let Some(used) = lay_all(&mut laid.weights, &mut laid.words, count, terms) else {
+            return Err(Refusal::PendingFull);
+        };
+        laid.count = used;
+        self.terms = laid;
         Ok(())
     }
 

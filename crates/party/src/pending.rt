@@ -3,7 +3,7 @@
 ghost use Rattle.std.specs.Prelude.{◌≡◌, ◌≢◌, ℕ, ◌+◌, ◌<◌, ◌≤◌, ◌^◌, IfNone, IfSome, leb, length, slice_index, take};
 ghost use Rattle.model.specs.Limits.{most_total};
 ghost use Rattle.model.specs.Machine.{add_to, pending_of, weighed};
-ghost use Rattle.party.specs.Laying.{added_each, added_words, IsLaid, total_weight};
+ghost use Rattle.party.specs.Laying.{added_each, IsLaid, total_weight};
 
 use crate::terms::TermList;
 use literal::{Literal, MOST_TERMS};
@@ -32,26 +32,36 @@ fn place_of(words: &[u32], word: u32) -> Option<usize>
     }
 }
 
-/// A weight on a word is added to the weight that stands there, or comes behind the last.
-/// Weights, words and count are lent one by one and not as `Terms`: `has_room` works on a copy of the words alone.
-fn lay(weights: &mut [u32], words: &mut [u32], count: usize, weight: u32, word: u32) -> usize
+/// A weight on a word is added to the weight that stands there, or comes behind the last; none where that has no room.
+/// Weights, words and count are lent one by one: the words alone are searched.
+fn lay(
+    weights: &mut [u32],
+    words: &mut [u32],
+    count: usize,
+    weight: u32,
+    word: u32,
+) -> Option<usize>
     requires widths { (length weights.old ≡ 128) × (length words.old ≡ 128) × (count ≤ 128) }
     requires fits { weighed (pending_of (take count weights.old) (take count words.old)) + weight < 2 ^ 32 }
-    requires room { length (add_to (record { weight = weight; word = word }) (pending_of (take count weights.old) (take count words.old)))
-        ≤ 128 }
-    ensures { IsLaid weights.old words.old weights.new words.new result
-        (add_to (record { weight = weight; word = word }) (pending_of (take count weights.old) (take count words.old))) }
+    ensures laid { IfSome result (λ used. IsLaid weights.old words.old weights.new words.new used
+        (add_to (record { weight = weight; word = word }) (pending_of (take count weights.old) (take count words.old)))) }
+    ensures within { IfSome result (λ used. used ≤ 128) }
+    ensures full { IfNone result
+        (128 < length (add_to (record { weight = weight; word = word }) (pending_of (take count weights.old) (take count words.old)))) }
 {
     match place_of(&words[..count], word) {
         Some(k) => {
             let raised = weights[k] + weight;
             weights[k] = raised;
-            count
+            Some(count)
         }
         None => {
+            if count == MOST_TERMS {
+                return None;
+            }
             weights[count] = weight;
             words[count] = word;
-            count + 1
+            Some(count + 1)
         }
     }
 }
@@ -71,55 +81,26 @@ pub fn keeps_total<L: TermList>(total: u64, terms: &L) -> bool
     true
 }
 
-/// Whether there is room for the terms' literals beside the words that are pending.
-pub fn has_room<L: TermList>(words: &[u32; 128], count: usize, terms: &L) -> bool
-    requires { count ≤ 128 }
-    ensures { result ≡ leb (length (added_words (L.terms terms.now) (take count words.now))) 128 }
-{
-    if terms.count() <= MOST_TERMS - count {
-        return true;
-    }
-    let mut seen = *words;
-    let mut used = count;
-    for i in 0..terms.count() {
-        let word = Literal {
-            word: terms.at(i).literal,
-        }
-        .connection();
-        if place_of(&seen[..used], word).is_none() {
-            if used == MOST_TERMS {
-                return false;
-            }
-            seen[used] = word;
-            used += 1;
-        }
-    }
-    true
-}
-
-/// Term after term.
+/// Term after term, while each literal has room: none where one has not, and the lists then hold some of the terms.
 pub fn lay_all<L: TermList>(
     weights: &mut [u32],
     words: &mut [u32],
     count: usize,
     terms: &L,
-) -> usize
+) -> Option<usize>
     requires widths { (length weights.old ≡ 128) × (length words.old ≡ 128) × (count ≤ 128) }
     requires fits { weighed (pending_of (take count weights.old) (take count words.old)) + total_weight (L.terms terms.now) < 2 ^ 32 }
-    requires room { length (added_each (L.terms terms.now) (pending_of (take count weights.old) (take count words.old))) ≤ 128 }
-    ensures { IsLaid weights.old words.old weights.new words.new result
-        (added_each (L.terms terms.now) (pending_of (take count weights.old) (take count words.old))) }
+    ensures laid { IfSome result (λ used. IsLaid weights.old words.old weights.new words.new used
+        (added_each (L.terms terms.now) (pending_of (take count weights.old) (take count words.old)))) }
+    ensures within { IfSome result (λ used. used ≤ 128) }
+    ensures full { IfNone result
+        (128 < length (added_each (L.terms terms.now) (pending_of (take count weights.old) (take count words.old)))) }
 {
     let mut used = count;
     for i in 0..terms.count() {
         let term = terms.at(i);
-        used = lay(
-            weights,
-            words,
-            used,
-            term.weight,
-            Literal { word: term.literal }.connection(),
-        );
+        let word = Literal { word: term.literal }.connection();
+        used = lay(weights, words, used, term.weight, word)?;
     }
-    used
+    Some(used)
 }

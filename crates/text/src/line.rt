@@ -107,6 +107,27 @@ pub fn scan_byte(scan: Scan, byte: u8) -> Scan
     after_other(scan, byte)
 }
 
+impl Scan {
+    /// `scan_byte` in place: most bytes go on with a number, and leave what stands beside it. A line of no form stays one.
+    #[tactic(auto, unfolding(crate::specs::Scans::scan_of))]
+    pub fn take(&mut self, byte: u8)
+        ensures { self.new ≡ scan_of self.old byte }
+    {
+        if let Scan::Other = self {
+            return;
+        }
+        if byte == b' ' {
+            *self = after_space(*self);
+            return;
+        }
+        match self {
+            Scan::OneNumber { first, .. } => *first = first.with_byte(byte),
+            Scan::TwoNumbers { second, .. } => *second = second.with_byte(byte),
+            _ => *self = after_other(*self, byte),
+        }
+    }
+}
+
 /// A line of one number: `f F`.
 #[tactic(auto, unfolding(crate::specs::Scans::first_of))]
 fn first_line(letter: u8, first: Number) -> Result<Line, NoForm>

@@ -1,4 +1,6 @@
 //! A checksum of all words of a table.
+ghost use Rattle.std.specs.Prelude.{◌<◌};
+
 use literal::Literal;
 
 /// The checksum's modulus, a prime.
@@ -14,8 +16,10 @@ pub fn of_words(words: &[i32]) -> u64 {
     words.iter().fold(1, |sum, word| mixed(sum, plain(*word)))
 }
 
-/// A checksum with one number more.
-fn mixed(sum: u64, x: u64) -> u64 {
+/// A checksum with one number more: below the modulus, whatever it was.
+fn mixed(sum: u64, x: u64) -> u64
+    ensures { result < 4294967291 }
+{
     (sum % PRIME * 1000003 + x % PRIME) % PRIME
 }
 

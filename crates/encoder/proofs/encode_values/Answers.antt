@@ -1,5 +1,5 @@
 -- `encode_values` gives each refusal in its place, then the run. Assumes nothing.
-use Rattle.std.proofs.Common.{sym, ◌∙◌, refl, arith}
+use Rattle.std.proofs.Common.{sym, ◌∙◌, refl, arith, rules}
 use Rattle.model.specs.Machine.{Machine}
 use Rattle.party.specs.Read.{machine_of}
 use Rattle.stages.specs.Ask.{values_of}
@@ -38,7 +38,7 @@ encode_short-fits-requires-clause-few c =
 pub returns-in_err-fits : goal.returns-in_err-fits
 returns-in_err-fits c =
     values-short _ _ _ (sym (c.too_many.ensures _ _ _ _) ∙ c.if-too_many.false) _ (sym c.room_for_build.ensures.answer ∙ c.in_ok-needs.was) _ c.in_err-fits.field-0.0
-    (sym (rw c.next-next.ensures at (c.encode_short-fits.ensures c.args.clauses.now refl (omega arith))) ∙ c.in_err-fits.was) c.from_residual-in_err-fits.ensures.1
+    (sym (rw c.next-next.ensures at (c.encode_short-fits.ensures c.args.clauses.now refl (omega arith))) ∙ c.in_err-fits.was) c.from_residual-in_err-fits.ensures.1 _ (search rules)
 
 pub perform-requires-clause-ready : goal.perform-requires-clause-ready
 perform-requires-clause-ready c =
@@ -58,5 +58,4 @@ returns c =
     let x : Machine = machine_of c.perform.new.encoder c.perform.new.shared c.perform.new.next c.perform.new.nodes c.perform.new.bounds c.perform.new.clauses in
     let f = sym (c.too_many.ensures _ _ _ _) ∙ c.if-too_many.false in
     let none = sym (rw c.next-next.ensures at (c.encode_short-fits.ensures c.args.clauses.now refl (omega arith))) ∙ c.in_ok-fits.was in
-    rw c.new.ensures
-    (values-done (values_of a.up) (values_of a.down) m f _ (sym c.room_for_build.ensures.answer ∙ c.in_ok-needs.was) none x (rw c.next-next.ensures at c.perform.ensures))
+    values-done (values_of a.up) (values_of a.down) m f _ (sym c.room_for_build.ensures.answer ∙ c.in_ok-needs.was) none x (rw c.next-next.ensures at c.perform.ensures) _ (search rules)

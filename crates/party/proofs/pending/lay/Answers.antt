@@ -9,16 +9,11 @@ overflow_add-raised c =
     let bound : get_or c.args.weights.now c.in-Some.k 0 + c.args.weight < 2 ^ 32 = omega (arith, weight_within c.args.weights.now c.args.words.now c.args.count c.in-Some.k (omega arith) (omega arith) within) in
     search rules
 
-pub bounds-weights-count : goal.bounds-weights-count
-bounds-weights-count c = omega (arith, grown c.args.weights.now c.args.words.now c.args.count c.args.weight c.args.word (omega arith) (omega arith) c.in-None.ensures.none)
+pub returns-in-Some-clause-laid : goal.returns-in-Some-clause-laid
+returns-in-Some-clause-laid c = raised _ _ _ _ _ (omega arith) (omega arith) _ c.in-Some.ensures.found.0 c.in-Some.ensures.found.1 c.in-Some.ensures.first
 
-pub bounds-words-count : goal.bounds-words-count
-bounds-words-count c = omega (arith, grown c.args.weights.now c.args.words.now c.args.count c.args.weight c.args.word (omega arith) (omega arith) c.in-None.ensures.none)
+pub returns-then-count-eq-MOST_TERMS-clause-full : goal.returns-then-count-eq-MOST_TERMS-clause-full
+returns-then-count-eq-MOST_TERMS-clause-full c = omega (arith, grown c.args.weights.now c.args.words.now c.args.count c.args.weight c.args.word (omega arith) (omega arith) c.in-None.ensures.none)
 
-pub returns-in-Some : goal.returns-in-Some
-returns-in-Some c = raised _ _ _ _ _ (omega arith) (omega arith) _ c.in-Some.ensures.found.0 c.in-Some.ensures.found.1 c.in-Some.ensures.first
-
-pub returns-in-None : goal.returns-in-None
-returns-in-None c =
-    let room : c.args.count < 128 = omega (arith, grown c.args.weights.now c.args.words.now c.args.count c.args.weight c.args.word (omega arith) (omega arith) c.in-None.ensures.none) in
-    appended _ _ _ _ _ (omega arith) (omega arith) c.in-None.ensures.none (omega arith) (omega arith)
+pub returns-else-count-eq-MOST_TERMS-clause-laid : goal.returns-else-count-eq-MOST_TERMS-clause-laid
+returns-else-count-eq-MOST_TERMS-clause-laid c = appended _ _ _ _ _ (omega arith) (omega arith) c.in-None.ensures.none (omega arith) (omega arith)

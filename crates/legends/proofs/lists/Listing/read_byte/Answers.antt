@@ -8,4 +8,4 @@ returns-then-byte-eq10 c = newline_read _ _ _ c.if-byte-eq10.true c.close_line.e
 
 pub returns-else-byte-eq10 : goal.returns-else-byte-eq10
 returns-else-byte-eq10 c =
-    other_read (listing_of c.args.self.now c.args.terms.now) _ _ c.if-byte-eq10.false c.scan_byte-self.ensures
+    other_read (listing_of c.args.self.now c.args.terms.now) _ _ c.if-byte-eq10.false c.take.ensures

@@ -1,6 +1,6 @@
 -- `add_each` is the model's `add`, refusal by refusal. Assumes nothing.
-use Rattle.std.proofs.Common.{arith, ◌∙◌, sym}
-use Rattle.party.proofs.AddLaws.{add_bad, add_damaged, all_added, bad_at, here, terms_fit, too_large, too_many, total_fits, weights_fit}
+use Rattle.std.proofs.Common.{arith, ◌≤◌, ◌-◌, ◌∙◌, sym, length}
+use Rattle.party.proofs.AddLaws.{add_bad, add_damaged, all_added, bad_at, here, surely, too_large, too_many, total_fits, weights_fit}
 use Rattle.party.proofs.encoder.Encoder.add_each.Goals as goal
 
 pub returns-then-is_damaged : goal.returns-then-is_damaged
@@ -22,22 +22,33 @@ returns-then-not-keeps_total g c =
     let r = here _ _ c.self.view_is (g.L.TermList.terms c.args.terms.now) _ c.total-total.ensures.total c.total-total.ensures.widths c.if-is_damaged.ensures.damaged c.if-is_damaged.ensures.within c.in_default.ensures in
     rw (← c.self.view_is) (sym (too_large _ _ r.0 (rw r.1 at c.if-not-keeps_total.ensures)))
 
-pub returns-then-not-has_room : goal.returns-then-not-has_room
-returns-then-not-has_room g c =
-    let r = here _ _ c.self.view_is (g.L.TermList.terms c.args.terms.now) _ c.total-total.ensures.total c.total-total.ensures.widths c.if-is_damaged.ensures.damaged c.if-is_damaged.ensures.within c.in_default.ensures in
-    rw (← c.self.view_is) (sym (too_many _ _ r.0 (rw r.1 at c.if-not-keeps_total.ensures) c.if-not-has_room.ensures))
-
-pub lay_all-self-inside-requires-clause-fits : goal.lay_all-self-inside-requires-clause-fits
-lay_all-self-inside-requires-clause-fits g c =
+pub lay_all-requires-clause-fits : goal.lay_all-requires-clause-fits
+lay_all-requires-clause-fits g c =
     let r = here _ _ c.self.view_is (g.L.TermList.terms c.args.terms.now) _ c.total-total.ensures.total c.total-total.ensures.widths c.if-is_damaged.ensures.damaged c.if-is_damaged.ensures.within c.in_default.ensures in
     weights_fit _ _ r.0 (rw r.1 at c.if-not-keeps_total.ensures)
 
-pub lay_all-self-inside-requires-clause-room : goal.lay_all-self-inside-requires-clause-room
-lay_all-self-inside-requires-clause-room g c =
+pub lay_all-requires-2-clause-fits : goal.lay_all-requires-2-clause-fits
+lay_all-requires-2-clause-fits g c =
     let r = here _ _ c.self.view_is (g.L.TermList.terms c.args.terms.now) _ c.total-total.ensures.total c.total-total.ensures.widths c.if-is_damaged.ensures.damaged c.if-is_damaged.ensures.within c.in_default.ensures in
-    terms_fit _ _ r.0 (rw r.1 at c.if-not-keeps_total.ensures) c.if-not-has_room.ensures
+    weights_fit _ _ r.0 (rw r.1 at c.if-not-keeps_total.ensures)
+
+pub returns-in_default-lay_all : goal.returns-in_default-lay_all
+returns-in_default-lay_all g c =
+    let r = here _ _ c.self.view_is (g.L.TermList.terms c.args.terms.now) _ c.total-total.ensures.total c.total-total.ensures.widths c.if-is_damaged.ensures.damaged c.if-is_damaged.ensures.within c.in_default.ensures in
+    let few : length (g.L.TermList.terms c.args.terms.now) ≤ 128 - c.self.inside.terms.count = omega (arith, c.count.ensures) in
+    absurd (omega (arith, c.in_default-lay_all.ensures.full, surely _ _ r.0 few))
+
+pub returns-in_default-lay_all-2 : goal.returns-in_default-lay_all-2
+returns-in_default-lay_all-2 g c =
+    let r = here _ _ c.self.view_is (g.L.TermList.terms c.args.terms.now) _ c.total-total.ensures.total c.total-total.ensures.widths c.if-is_damaged.ensures.damaged c.if-is_damaged.ensures.within c.in_default.ensures in
+    rw (← c.self.view_is) (sym (too_many _ _ r.0 (rw r.1 at c.if-not-keeps_total.ensures) c.in_default-lay_all-2.ensures.full))
+
+pub returns-then-count : goal.returns-then-count
+returns-then-count g c =
+    let r = here _ _ c.self.view_is (g.L.TermList.terms c.args.terms.now) _ c.total-total.ensures.total c.total-total.ensures.widths c.if-is_damaged.ensures.damaged c.if-is_damaged.ensures.within c.in_default.ensures in
+    rw (← c.self.view_is) (sym (all_added _ _ r.0 (rw r.1 at c.if-not-keeps_total.ensures) _ _ _ (omega arith) (omega arith) c.in-Some-lay_all.ensures.within c.in-Some-lay_all.ensures.laid))
 
 pub returns : goal.returns
 returns g c =
     let r = here _ _ c.self.view_is (g.L.TermList.terms c.args.terms.now) _ c.total-total.ensures.total c.total-total.ensures.widths c.if-is_damaged.ensures.damaged c.if-is_damaged.ensures.within c.in_default.ensures in
-    rw (← c.self.view_is) (sym (all_added _ _ r.0 (rw r.1 at c.if-not-keeps_total.ensures) c.if-not-has_room.ensures _ _ _ (omega arith) (omega arith) c.lay_all-self-inside.ensures))
+    rw (← c.self.view_is) (sym (all_added _ _ r.0 (rw r.1 at c.if-not-keeps_total.ensures) _ _ _ (omega arith) (omega arith) c.in-Some-lay_all-2.ensures.within c.in-Some-lay_all-2.ensures.laid))
