@@ -176,7 +176,7 @@ impl Structure {
 
 /// A weight 0, or a variable that is 0 or not below the first fresh number.
 #[tactic(auto, unfolding(model::specs::Calls::is_bad_term))]
-fn is_bad(term: Term, first: u32) -> bool
+pub(crate) fn is_bad(term: Term, first: u32) -> bool
     ensures { result ≡ is_bad_term first (term_of term) }
 {
     let n = Literal { word: term.literal }.variable();
@@ -203,7 +203,7 @@ impl Encoder {
     ghost use Rattle.model.specs.Machine.{empty_party, no_terms, total_of};
     ghost use Rattle.model.specs.Damage.{party_damaged};
     ghost use Rattle.model.specs.Calls.{start, started_over, add, report};
-    ghost use Rattle.party.specs.Read.{started_of, added_of, report_of, party_of};
+    ghost use Rattle.party.specs.Read.{started_of, added_of, report_of, party_of, terms_of};
 
     /// An encoder that holds nothing, whatever its first fresh number is: with 0, what the rules say of a refused start.
     #[tactic(auto, unfolding(model::specs::Machine::empty_party))]
@@ -277,6 +277,13 @@ impl Encoder {
         self.bounds = 0;
     }
 
+    /// Other pending terms in place of those that are held.
+    pub(crate) fn replace_terms(&mut self, terms: Terms)
+        ensures { self.new ≡ record self.old { terms = terms_of terms } }
+    {
+        self.terms = terms;
+    }
+
     /// An encoding or a reservation leaves so many bound records, clauses and numbers drawn.
     pub fn count_work(&mut self, bounds: u32, clauses: usize, drawn: u32)
         ensures { self.new ≡ record self.old { bounds = bounds; tally = record { clauses = clauses; drawn = drawn } } }
@@ -308,6 +315,7 @@ impl Encoder {
         ensures damaged { result ≡ party_damaged self.now }
         ensures within { OnFalse result
             ((self.now.terms.count ≤ 128) × (total_of self.now ≤ most_total) × (self.now.given.first ≤ greatest)) }
+        ensures widths { OnFalse result ((length self.now.terms.weights ≡ 128) × (length self.now.terms.words ≡ 128)) }
     {
         if self.given.first == 0 || GREATEST < self.given.first {
             return true;

@@ -13,7 +13,7 @@ pub const MOST_SUM: u64 = 4_294_967_295;
 
 /// The place of the first word that equals one. Every word is looked at, with no way out of the loop, so that several are compared at
 /// once.
-fn place_of(words: &[u32], word: u32) -> Option<usize>
+pub fn place_of(words: &[u32], word: u32) -> Option<usize>
     requires { length words.now ≤ 128 }
     ensures found { IfSome result (λ k. (k < length words.now) × (slice_index words.now k ≡ word)) }
     ensures first { IfSome result (λ k. (j : ℕ) → j < k → slice_index words.now j ≢ word) }

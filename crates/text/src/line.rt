@@ -1,9 +1,8 @@
 //! Lines, a byte at a time, so that lines of any length go through fixed memory.
-ghost use Rattle.std.specs.Prelude.{◌≡◌, ◌≢◌};
-ghost use Rattle.model.specs.Text.{space};
+ghost use Rattle.std.specs.Prelude.{◌≡◌};
 ghost use Rattle.text.specs.Scans.{begin_of, first_of, later_of, line_of_scan, scan_of};
 
-use crate::Number;
+use crate::{Fields, Number};
 
 /// A line as far as it was read: the letter that is its first byte, and the numbers that stand behind it, each after one space.
 /// The letter is a byte and no kind: any byte may be the first, and what it asks for is told at the line's end.
@@ -23,6 +22,9 @@ pub enum Scan {
     },
     /// Of no form any more.
     Other,
+    /// The same as plain fields of any values, as a caller may hold it. What `begin_line` begins never comes to be held so, and a line
+    /// that is held so stays held so.
+    Fields(Fields),
 }
 
 /// `f F`, `t weight literal`, `u from to`, or `l from to`.
@@ -50,80 +52,56 @@ pub fn begin_line() -> Scan
     Scan::Start
 }
 
-/// A space goes to the next field.
-#[tactic(auto, unfolding(crate::specs::Scans::scan_of))]
-fn after_space(scan: Scan) -> Scan
-    ensures { result ≡ scan_of scan space }
-{
-    match scan {
-        Scan::Start => Scan::Letter(b' '),
-        Scan::Letter(letter) => Scan::OneNumber {
-            letter,
-            first: Number::Empty,
-        },
-        Scan::OneNumber { letter, first } => Scan::TwoNumbers {
-            letter,
-            first,
-            second: Number::Empty,
-        },
-        Scan::TwoNumbers { .. } => Scan::Other,
-        Scan::Other => Scan::Other,
-    }
-}
-
-/// Any other byte goes on with its field.
-#[tactic(auto, unfolding(crate::specs::Scans::scan_of))]
-fn after_other(scan: Scan, byte: u8) -> Scan
-    requires { byte ≢ space }
-    ensures { result ≡ scan_of scan byte }
-{
-    match scan {
-        Scan::Start => Scan::Letter(byte),
-        Scan::Letter(_) => Scan::Other,
-        Scan::OneNumber { letter, first } => Scan::OneNumber {
-            letter,
-            first: first.with_byte(byte),
-        },
-        Scan::TwoNumbers {
-            letter,
-            first,
-            second,
-        } => Scan::TwoNumbers {
-            letter,
-            first,
-            second: second.with_byte(byte),
-        },
-        Scan::Other => Scan::Other,
-    }
-}
-
 /// One byte more of a line, a space or any other but the newline.
 pub fn scan_byte(scan: Scan, byte: u8) -> Scan
     ensures { result ≡ scan_of scan byte }
 {
-    if byte == b' ' {
-        return after_space(scan);
-    }
-    after_other(scan, byte)
+    let mut next = scan;
+    next.take(byte);
+    next
 }
 
 impl Scan {
-    /// `scan_byte` in place: most bytes go on with a number, and leave what stands beside it. A line of no form stays one.
+    /// `scan_byte` in place: a space goes to the next field, and any other byte goes on with its field. Most go on with a number, and leave
+    /// what stands beside it.
+    /// Inlined, since the legend reads each byte twice and would call it there.
+    #[inline(always)]
     #[tactic(auto, unfolding(crate::specs::Scans::scan_of))]
     pub fn take(&mut self, byte: u8)
         ensures { self.new ≡ scan_of self.old byte }
     {
-        if let Scan::Other = self {
-            return;
-        }
-        if byte == b' ' {
-            *self = after_space(*self);
-            return;
-        }
         match self {
-            Scan::OneNumber { first, .. } => *first = first.with_byte(byte),
-            Scan::TwoNumbers { second, .. } => *second = second.with_byte(byte),
-            _ => *self = after_other(*self, byte),
+            Scan::Start => *self = Scan::Letter(byte),
+            Scan::Letter(letter) => {
+                *self = if byte == b' ' {
+                    Scan::OneNumber {
+                        letter: *letter,
+                        first: Number::Empty,
+                    }
+                } else {
+                    Scan::Other
+                };
+            }
+            Scan::OneNumber { letter, first } => {
+                if byte == b' ' {
+                    *self = Scan::TwoNumbers {
+                        letter: *letter,
+                        first: *first,
+                        second: Number::Empty,
+                    };
+                } else {
+                    *first = first.with_byte(byte);
+                }
+            }
+            Scan::TwoNumbers { second, .. } => {
+                if byte == b' ' {
+                    *self = Scan::Other;
+                } else {
+                    *second = second.with_byte(byte);
+                }
+            }
+            Scan::Other => {}
+            Scan::Fields(fields) => fields.take(byte),
         }
     }
 }
@@ -187,5 +165,6 @@ pub fn line_of(scan: Scan) -> Result<Line, NoForm>
             second,
         } => later_line(letter, first, second),
         Scan::Other => Err(NoForm),
+        Scan::Fields(fields) => fields.line(),
     }
 }

@@ -3,7 +3,6 @@ use crate::chain::links;
 use buckets::{Built, Needs};
 use comparators::{Filled, Need};
 use emitter::Cursor;
-use gates::Gate;
 use literal::{Direction, MOST_NODES, MOST_TERMS, OUTPUTS};
 use source::Source;
 use try_io::{Numbers, first_of, say, say_all};
@@ -168,16 +167,12 @@ impl Machine {
     }
 
     pub fn gate(&mut self, rt: &impl Print, numbers: &mut Numbers, clauses: &mut [i32]) {
-        let Gate {
-            kind,
-            bit,
-            direction,
-        } = Gate::from(numbers.read::<u32>());
+        let gate = numbers.read::<u32>();
         let mut words = [0; 4];
         numbers.fill(&mut words);
-        let fill = gates::put_gate(clauses, self.cursor.fill, kind, bit, direction, words);
+        let fill = gates::put_gate_by(clauses, self.cursor.fill, gate, words);
         say(rt, fill);
-        say(rt, gates::gate_clauses(kind, bit, direction));
+        say(rt, gates::gate_clauses_by(gate));
         self.cursor.fill = fill;
     }
 
@@ -210,7 +205,7 @@ impl Machine {
 
     pub fn draw(&mut self, rt: &impl Print) {
         let mut source = Source::new(self.cursor.next);
-        let number = source.draw().unwrap_or(0);
+        let number = source.take();
         let next = source.next();
         say(rt, number);
         say(rt, next);

@@ -1,5 +1,6 @@
--- `encode_values` gives each refusal in its place, then the run. Assumes nothing.
-use Rattle.std.proofs.Common.{sym, ◌∙◌, refl, arith, rules}
+-- `encode_values` gives each refusal in its place, then the run. That the verdict is the one that `?` met is left to `grind`, which goes
+-- through a `match` between the two as well. Assumes nothing.
+use Rattle.std.proofs.Common.{◌≡◌, sym, ◌∙◌, refl, Ok, arith, rules}
 use Rattle.model.specs.Machine.{Machine}
 use Rattle.party.specs.Read.{machine_of}
 use Rattle.stages.specs.Ask.{values_of}
@@ -38,7 +39,7 @@ encode_short-fits-requires-clause-few c =
 pub returns-in_err-fits : goal.returns-in_err-fits
 returns-in_err-fits c =
     values-short _ _ _ (sym (c.too_many.ensures _ _ _ _) ∙ c.if-too_many.false) _ (sym c.room_for_build.ensures.answer ∙ c.in_ok-needs.was) _ c.in_err-fits.field-0.0
-    (sym (rw c.next-next.ensures at (c.encode_short-fits.ensures c.args.clauses.now refl (omega arith))) ∙ c.in_err-fits.was) c.from_residual-in_err-fits.ensures.1 _ (search rules)
+    (sym (rw c.next-next.ensures at (c.encode_short-fits.ensures c.args.clauses.now refl (omega arith))) ∙ grind arith) c.from_residual-in_err-fits.ensures.1 _ (grind arith)
 
 pub perform-requires-clause-ready : goal.perform-requires-clause-ready
 perform-requires-clause-ready c =
@@ -49,13 +50,14 @@ perform-requires-clause-ready c =
     ready m c.requires.0 _ (roomy m _ room) c.room_for_build.ensures.wide a.up a.down f c.requires.1 c.requires.2
 
 pub perform-requires-clause-enough : goal.perform-requires-clause-enough
-perform-requires-clause-enough c = record { none = sym (c.encode_short-fits.ensures c.args.clauses.now refl (omega arith)) ∙ c.in_ok-fits.was; filled = c.requires.0.counted; drawn = c.requires.0.drawn }
+perform-requires-clause-enough c = record { none = sym (c.encode_short-fits.ensures c.args.clauses.now refl (omega arith)) ∙ grind arith; filled = c.requires.0.counted; drawn = c.requires.0.drawn }
 
 pub returns : goal.returns
 returns c =
     let a = c.args in
     let m : Machine = machine_of a.encoder.now a.shared.now a.source.now a.nodes.now a.bounds.now a.clauses.now in
     let x : Machine = machine_of c.perform.new.encoder c.perform.new.shared c.perform.new.next c.perform.new.nodes c.perform.new.bounds c.perform.new.clauses in
+    let fits : c.encode_short-fits.result ≡ Ok tt = grind arith in
     let f = sym (c.too_many.ensures _ _ _ _) ∙ c.if-too_many.false in
-    let none = sym (rw c.next-next.ensures at (c.encode_short-fits.ensures c.args.clauses.now refl (omega arith))) ∙ c.in_ok-fits.was in
+    let none = sym (rw c.next-next.ensures at (c.encode_short-fits.ensures c.args.clauses.now refl (omega arith))) ∙ fits in
     values-done (values_of a.up) (values_of a.down) m f _ (sym c.room_for_build.ensures.answer ∙ c.in_ok-needs.was) none x (rw c.next-next.ensures at c.perform.ensures) _ (search rules)
